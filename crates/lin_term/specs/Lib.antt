@@ -1,0 +1,5 @@
+pub mod Form
+pub mod Linear
+pub mod Literal
+pub mod Move
+pub mod Wide
