@@ -1,0 +1,3 @@
+pub mod Contrary
+pub mod Renaming
+pub mod Views
