@@ -11,7 +11,7 @@ use Rattle.std.proofs.lemmas.Nat.Gcd.{IsGcd-from_zero, IsGcd-from_mod, same_from
 use Rattle.lin_term.specs.Linear.{Sort, Rat, Int, Form, floor_div, constant_form, put_front}
 use Rattle.lin_term.specs.Literal.{Lit, AtLeast, Above, Divides, NotDivides, IsOf, gcd_within, gcd, gcd_terms, or_one, divisor, quotient_terms, quotient, whole_form, sign_of, prim, minus_one, residue, reduce_terms, reduce, common_divisor, modulus_of, residue_form, IsPrimitive}
 use Rattle.lin_term.proofs.Dividing.{abs_product}
-use Rattle.lin_term.proofs.Primitive.{gcd_is, DividesTerms, gcd_divides, divides_weaker, or_one_pos, or_one_divides, or_one_terms, floor_exact, floor_bounds, whole_div}
+use Rattle.lin_term.proofs.PrimitiveLemmas.{gcd_is, DividesTerms, gcd_divides, divides_weaker, or_one_pos, or_one_divides, or_one_terms, floor_exact, floor_bounds, whole_div}
 
 scaled_mod : (k a b : ℕ) → 1 ≤ k → (k * a) % (k * suc b) ≡ k * (a % suc b)
 scaled_mod k a b o =
@@ -147,7 +147,7 @@ all_quotient : (g d : ℕ) (ts : List (ℕ × ℤ)) → 1 ≤ g → DividesTerms
 all_quotient g d [] o v h = tt
 all_quotient g d (t ∷ ts) o v h = (small_quotient g d t.1 o v.0 h.0, all_quotient g d ts o v.1 h.1)
 
-residue_same : (y d : ℕ) → y < d → residue (pos y) d ≡ y
+pub residue_same : (y d : ℕ) → y < d → residue (pos y) d ≡ y
 residue_same y d h =
     let e : y / d ≡ 0 = ap (λ (x : ℕ). x / d) (let s : y ≡ 0 * d + y = omega arith in s) ∙ div-mul-add 0 d y h in
     ap (λ (q : ℕ). nat_abs (pos y -ℤ pos d *ℤ pos q)) e ∙ (let m : nat_abs (pos y -ℤ pos d *ℤ pos 0) ≡ y = omega (arith, ints) in m)

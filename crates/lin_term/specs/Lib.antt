@@ -3,3 +3,12 @@ pub mod Linear
 pub mod Literal
 pub mod Move
 pub mod Wide
+pub mod Truth
+pub mod Sum
+pub mod Definition
+pub mod PutIn
+pub mod Primable
+pub mod Blend
+pub mod Items
+pub mod Settle
+pub mod PutWith

@@ -46,3 +46,11 @@ impl<E> From<AllocError> for Short<E> {
         Short::Memory
     }
 }
+
+impl<E, T: Drop> From<AllocFailed<T>> for Short<E> {
+    ghost from_gives = { λ _ e. e ≡ short.Memory };
+
+    fn from(_e: AllocFailed<T>) -> Short<E> {
+        Short::Memory
+    }
+}

@@ -1,7 +1,7 @@
 //! Linear forms over numbered variables.
 
 ghost use Rattle.std.specs.Prelude.{◌≡◌, ◌<◌, ◌≤◌, ◌^◌, ℕ, ℤ, nat_abs, IfOk, List, []};
-ghost use Rattle.lin_term.specs.Form.{Form, IsRow, cap};
+ghost use Rattle.lin_term.specs.Form.{Form, AreTerms, IsRow, cap};
 
 use crate::fault::Memory;
 use smallvec::SmallVec;
@@ -61,16 +61,27 @@ impl Row {
 
     /// The coefficients by variable number, ascending.
     pub fn coefs(&self) -> &[(u32, i64)]
-        ensures { result.now ≡ self.now.terms }
+        ensures terms { result.now ≡ self.now.terms }
+        ensures kept { AreTerms 0 result.now }
     {
         self.coefs.as_slice()
     }
 
     /// The constant.
     pub fn constant_part(&self) -> i64
-        ensures { result ≡ self.now.constant }
+        ensures value { result ≡ self.now.constant }
+        ensures kept { nat_abs result ≤ cap }
     {
         self.constant
+    }
+
+    /// The coefficients and the constant.
+    pub(crate) fn into_parts(self) -> (Coefs, i64)
+        ensures terms { result.0.items ≡ self.terms }
+        ensures constant { result.1 ≡ self.constant }
+        ensures row { IsRow self }
+    {
+        (self.coefs, self.constant)
     }
 
     /// An equal row; refuses only for memory.
