@@ -8,7 +8,7 @@ use Rattle.dom_core.specs.declared.quant.Quant.{Quant}
 use Rattle.dom_core.specs.declared.quant.Quant.TheVariants.{Exists, Forall}
 use Rattle.dom_core.specs.Game.{Matrix, lit, all, some, Matrices, none, more, HoldsIn, AllHold, AllFail, neg_matrix, neg_matrices, IsMatrix, AreMatrices, flip_all, TrueFrom}
 use Rattle.lin_term.proofs.Holding.{stable_literal}
-use Rattle.lin_term.proofs.Primitive.{neg_apart, neg_from}
+use Rattle.lin_term.proofs.PrimitiveLemmas.{neg_apart, neg_from}
 
 mutual
   pub stable_matrix : (m : Matrix) (p : Point) → ¬ (¬ HoldsIn m p) → HoldsIn m p

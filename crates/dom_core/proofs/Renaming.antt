@@ -11,7 +11,7 @@ use Rattle.lin_term.specs.Literal.{IsOf, form_of, rename_lit, prim, neg, opposit
 use Rattle.dom_core.specs.Game.{Matrix, lit, all, some, Matrices, none, more, HoldsIn, AllHold, AllFail, neg_matrix, neg_matrices, rename_matrix, rename_matrices, IsMatrix, AreMatrices}
 use Rattle.lin_term.proofs.Dots.{Agree}
 use Rattle.lin_term.proofs.Holding.{to_names}
-use Rattle.lin_term.proofs.Primitive.{modulus_one}
+use Rattle.lin_term.proofs.PrimitiveLemmas.{modulus_one}
 
 mutual
   pub matrix_to_names : (m : Matrix) (s : Sort) (names : List ℕ) (e p : Point) → IsPoint s e → IsPoint s p → Agree names e p → IsMatrix m s (length names) → HoldsIn m e → HoldsIn (rename_matrix m names) p

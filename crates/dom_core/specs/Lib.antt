@@ -1,3 +1,6 @@
 pub mod Game
 pub mod View
 pub mod Problem
+pub mod Cube
+pub mod Elimination
+pub mod Adding
