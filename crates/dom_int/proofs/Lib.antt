@@ -1,0 +1,4 @@
+pub mod Deltas
+pub mod Places
+pub mod Numerators
+pub mod Adding

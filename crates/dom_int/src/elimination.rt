@@ -1,0 +1,135 @@
+//! The cases of one variable, one at a time.
+
+ghost use Rattle.std.specs.Prelude.{◌≡◌, ◌<◌, ◌≤◌, length, None};
+ghost use Rattle.lin_term.specs.declared.Sort.TheVariants.{Int};
+ghost use Rattle.lin_term.specs.Form.{cap};
+ghost use Rattle.lin_term.specs.Wide.{Capped, first_past};
+ghost use Rattle.dom_core.specs.Cube.{IsPrimitiveCube};
+ghost use Rattle.dom_core.specs.Elimination.{cooper, cube_numbers, elimination_numbers};
+ghost use Rattle.dom_int.specs.Counts.{CappedWide, first_numbers};
+ghost use Rattle.dom_int.specs.Case.{case_at};
+
+use crate::case::{free_case, lower_case};
+use crate::count::sum_of_counts;
+use crate::period::period;
+use crate::place::place_of;
+use dom_core::Cube;
+use lin_term::{Short, Wide};
+use sqlite_items::Items;
+use std::alloc::Global;
+use std::marker::Model;
+
+/// A cube and the variable that is taken out of it, with the number of its cases. No case is kept: memory is that of the
+/// cube, and each case costs one pass over it.
+#[derive(Debug, Drop)]
+pub struct Elimination {
+    cube: Cube,
+    var: u32,
+    period: u64,
+    lower: u64,
+}
+
+impl Model for Elimination {
+    ghost use Rattle.dom_int.specs.Target.{Target, IsPrepared};
+
+    ghost Value = { Target };
+
+    ghost view = { λ e. record { cube = e.cube; variable = e.var } };
+
+    ghost invariant = { λ e. IsPrepared e.cube e.var e.period e.lower };
+}
+
+impl Elimination {
+    /// Counts the cases and builds none. It refuses exactly where a partial delta or a partial sum of the counts passes
+    /// the cap, and names the first; the deltas come before the sums.
+    pub fn prepare(cube: Cube, var: u32) -> Result<Elimination, Wide>
+        requires { IsPrimitiveCube Int cube }
+        ensures { CappedWide (first_numbers cube var) (record { cube = cube; variable = var }) result }
+    {
+        let n = match period(cube.lits(), var) {
+            Ok(n) => n,
+            Err(wide) => return Err(wide),
+        };
+        let lower = match sum_of_counts(cube.lits(), var, n) {
+            Ok(lower) => lower,
+            Err(wide) => return Err(wide),
+        };
+        Ok(Elimination {
+            cube,
+            var,
+            period: n,
+            lower,
+        })
+    }
+
+    /// How many cases there are, at most 2^52.
+    pub fn count(&self) -> u64
+        ensures value { result ≡ length (cooper self.now.cube self.now.variable) }
+        ensures kept { result ≤ cap }
+        ensures fits { first_past (first_numbers self.now.cube self.now.variable) ≡ None }
+    {
+        if self.lower == 0 {
+            self.period
+        } else {
+            self.lower
+        }
+    }
+
+    /// The case of this number. It refuses exactly where one of its numbers passes the cap, and names the first.
+    pub fn case(&self, alloc: Global, index: u64) -> Result<Cube, Short<Wide>>
+        requires { index < length (cooper self.now.cube self.now.variable) }
+        ensures { Capped (cube_numbers (case_at self.now.cube self.now.variable index)) (case_at self.now.cube self.now.variable index) result }
+    {
+        let lits = self.cube.lits();
+        if self.lower == 0 {
+            return free_case(alloc, lits, self.var, index);
+        }
+        let (place, k) = place_of(lits, self.var, self.period, index);
+        lower_case(alloc, lits, self.var, place, k)
+    }
+
+    /// All cases in order. It refuses exactly where a number of the elimination passes the cap, and names the first.
+    pub fn all(&self, alloc: Global) -> Result<Items<Cube>, Short<Wide>>
+        ensures { Capped (elimination_numbers Int self.now.cube self.now.variable) (cooper self.now.cube self.now.variable) result }
+    {
+        let mut cubes = Items::new(alloc);
+        let count = self.count();
+        for index in 0..count {
+            match self.case(alloc, index) {
+                Ok(case) => cubes.push(case)?,
+                Err(fault) => return Err(fault),
+            }
+        }
+        Ok(cubes)
+    }
+
+    /// Refuses exactly where a number of the elimination passes the cap, and names the first. Each case is built once and
+    /// dropped.
+    pub fn check(&self, alloc: Global) -> Result<(), Short<Wide>>
+        ensures { Capped (elimination_numbers Int self.now.cube self.now.variable) tt result }
+    {
+        let count = self.count();
+        for index in 0..count {
+            match self.case(alloc, index) {
+                Ok(_) => {}
+                Err(fault) => return Err(fault),
+            }
+        }
+        Ok(())
+    }
+}
+
+/// All cases of the variable. It refuses exactly where a number of the elimination passes the cap, and names the first.
+pub(crate) fn eliminate(alloc: Global, cube: &Cube, var: u32) -> Result<Items<Cube>, Short<Wide>>
+    requires { IsPrimitiveCube Int cube.now }
+    ensures { Capped (elimination_numbers Int cube.now var) (cooper cube.now var) result }
+{
+    let copy = match cube.copy(alloc) {
+        Ok(copy) => copy,
+        Err(_) => return Err(Short::Memory),
+    };
+    match Elimination::prepare(copy, var) {
+        Ok(elimination) => elimination.all(alloc),
+        Err(wide) => Err(Short::Fault(wide)),
+    }
+}

@@ -1,0 +1,7 @@
+//! Rationals: one variable taken out of a cube, after Fourier and Motzkin.
+#![tactic(auto)]
+
+mod fourier_motzkin;
+mod rat;
+
+pub use rat::Rat;
