@@ -1,0 +1,4 @@
+pub mod Cases
+pub mod Comparing
+pub mod Counting
+pub mod Sound

@@ -1,0 +1,5 @@
+pub mod Name
+pub mod Context
+pub mod Facts
+pub mod Lines
+pub mod Closing

@@ -1,0 +1,18 @@
+//! The lines of a proof, the names of their rules, and the rules as far as they speak of literals alone.
+#![tactic(auto)]
+
+mod least;
+mod literal;
+mod rule;
+mod split;
+mod step;
+mod sum;
+#[cfg(test)]
+mod tests;
+
+pub use least::least_of;
+pub use literal::{is_false_literal, is_inequality_literal, is_primitive_literal, literal_within};
+pub use rule::Rule;
+pub use split::split_in_two;
+pub use step::{Step, rule_of_step, within};
+pub use sum::summed;

@@ -1,0 +1,158 @@
+//! Tests of a literal.
+
+ghost use Rattle.std.specs.Prelude.{◌≡◌, None, true, is_none, nat_lt, IfOk};
+ghost use Rattle.std.specs.List.{list_all};
+ghost use Rattle.std.specs.Ordering.{int_eq};
+ghost use Rattle.lin_term.specs.Literal.{form_of, prim};
+ghost use Rattle.lin_term.specs.Primable.{IsPrimable};
+ghost use Rattle.lin_term.specs.Truth.{truth_of};
+ghost use Rattle.lin_term.specs.Wide.{first_past, lit_numbers, form_numbers};
+ghost use Rattle.cube_rules.specs.Facts.{is_inequality, is_of, is_primitive, same_terms, same_form, same_literal, all_below};
+ghost use Rattle.cube_rules.specs.Lines.{is_false};
+
+use lin_term::{CAP, Lit, Memory, Row, Short, Sort, closed_truth, primitive};
+use std::alloc::Global;
+
+/// Whether the literal is an inequality, and no divisibility.
+pub fn is_inequality_literal(lit: &Lit) -> bool
+    ensures { result ≡ is_inequality lit.now }
+{
+    match lit {
+        Lit::AtLeast(_) | Lit::Above(_) => true,
+        Lit::Divides(_, _) | Lit::NotDivides(_, _) => false,
+    }
+}
+
+/// Whether the literal has no variable and is false.
+pub fn is_false_literal(lit: &Lit) -> bool
+    ensures { result ≡ is_false (truth_of lit.now) }
+{
+    match closed_truth(lit) {
+        Some(holds) => !holds,
+        None => false,
+    }
+}
+
+/// Whether the literal's numbers are within the cap of 2^52 in size. Those of a row always are, so the modulus decides.
+pub fn literal_within(lit: &Lit) -> bool
+    ensures { result ≡ is_none (first_past (lit_numbers lit.now)) }
+{
+    match lit {
+        Lit::AtLeast(row) | Lit::Above(row) => row_within(row),
+        Lit::Divides(d, row) | Lit::NotDivides(d, row) => *d <= CAP as u64 && row_within(row),
+    }
+}
+
+/// A row's numbers are within the cap.
+fn row_within(row: &Row) -> bool
+    ensures yes { result ≡ true }
+    ensures kept { first_past (form_numbers row.now) ≡ None }
+{
+    let _ = row.coefs();
+    let _ = row.constant_part();
+    true
+}
+
+/// The row of a literal.
+fn row_of(lit: &Lit) -> &Row
+    ensures { result.now ≡ form_of lit.now }
+{
+    match lit {
+        Lit::AtLeast(row) => row,
+        Lit::Above(row) => row,
+        Lit::Divides(_, row) => row,
+        Lit::NotDivides(_, row) => row,
+    }
+}
+
+/// Whether the literal's variables are below n.
+pub(crate) fn has_variables_below(lit: &Lit, n: u32) -> bool
+    ensures { result ≡ all_below n (form_of lit.now).terms }
+{
+    is_below(row_of(lit).coefs(), n)
+}
+
+/// Whether the variables of the terms are below n.
+fn is_below(terms: &[(u32, i64)], n: u32) -> bool
+    ensures { result ≡ list_all (λ t. nat_lt t.0 n) terms.now }
+{
+    terms.iter().all(|t| t.0 < n)
+}
+
+/// Whether the literal is one of the sort: a strict inequality in Rat alone, a divisibility in Int alone and with a
+/// modulus of 1 or more.
+fn is_of_sort(sort: Sort, lit: &Lit) -> bool
+    ensures { result ≡ is_of sort lit.now }
+{
+    match sort {
+        Sort::Rat => match lit {
+            Lit::AtLeast(_) | Lit::Above(_) => true,
+            Lit::Divides(_, _) | Lit::NotDivides(_, _) => false,
+        },
+        Sort::Int => match lit {
+            Lit::AtLeast(_) => true,
+            Lit::Above(_) => false,
+            Lit::Divides(d, _) | Lit::NotDivides(d, _) => *d >= 1,
+        },
+    }
+}
+
+/// Whether the terms are the same, one by one.
+fn are_same_terms(a: &[(u32, i64)], b: &[(u32, i64)]) -> bool
+    ensures { result ≡ same_terms a.now b.now }
+{
+    a == b
+}
+
+/// Whether the constants are the same.
+fn is_same_constant(a: i64, b: i64) -> bool
+    ensures { result ≡ int_eq a b }
+{
+    a == b
+}
+
+/// Whether the rows have the same coefficients and constant.
+fn is_same_row(a: &Row, b: &Row) -> bool
+    ensures { result ≡ same_form a.now b.now }
+{
+    are_same_terms(a.coefs(), b.coefs()) && is_same_constant(a.constant_part(), b.constant_part())
+}
+
+/// Whether the literals are of the same kind, modulus and row.
+fn is_same_literal(a: &Lit, b: &Lit) -> bool
+    ensures { result ≡ same_literal a.now b.now }
+{
+    match a {
+        Lit::AtLeast(row) => match b {
+            Lit::AtLeast(other) => is_same_row(row, other),
+            _ => false,
+        },
+        Lit::Above(row) => match b {
+            Lit::Above(other) => is_same_row(row, other),
+            _ => false,
+        },
+        Lit::Divides(d, row) => match b {
+            Lit::Divides(e, other) => *d == *e && is_same_row(row, other),
+            _ => false,
+        },
+        Lit::NotDivides(d, row) => match b {
+            Lit::NotDivides(e, other) => *d == *e && is_same_row(row, other),
+            _ => false,
+        },
+    }
+}
+
+/// Whether the literal is of the sort and its own primitive form. It refuses only for memory.
+pub fn is_primitive_literal(alloc: Global, sort: Sort, lit: &Lit) -> Result<bool, Memory>
+    requires kept { first_past (lit_numbers lit.now) ≡ None }
+    ensures { IfOk result (λ b. b ≡ is_primitive sort lit.now) }
+{
+    if !is_of_sort(sort, lit) {
+        return Ok(false);
+    }
+    match primitive(alloc, sort, lit.copy(alloc)?) {
+        Ok(form) => Ok(is_same_literal(&form, lit)),
+        Err(Short::Fault(_)) => Ok(false),
+        Err(Short::Memory) => Err(Memory),
+    }
+}

@@ -1,0 +1,2 @@
+pub mod Skeleton
+pub mod View
