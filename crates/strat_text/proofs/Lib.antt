@@ -1,0 +1,6 @@
+pub mod Lines
+pub mod Steps
+pub mod Trees
+pub mod Files
+pub mod Appending
+pub mod MoveLists

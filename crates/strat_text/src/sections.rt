@@ -1,0 +1,178 @@
+//! Reading a strategy file.
+
+ghost use Rattle.std.specs.Prelude.{◌≡◌, ◌≤◌, ◌<◌, ◌^◌, ◌==◌, List, length, IfOk, IfSome, map, Ok};
+ghost use Rattle.std.specs.List.{list_all, AllByRecursion};
+ghost use Rattle.strat_words.specs.Spot.{Gives};
+ghost use Rattle.strat_words.specs.View.{spot};
+ghost use Rattle.strat_words.specs.Many.{times};
+ghost use Rattle.strat_text.specs.File as spec;
+ghost use Rattle.strat_text.specs.Spelling.{Spells, without_line, line_of};
+ghost use Rattle.strat_text.specs.declared.section.Section.{Section};
+
+use crate::preorder::tree;
+use crate::proof::proof;
+use crate::section::{Section, Sections};
+use game_tree::Side;
+use itoa::Buffer;
+use sqlite_items::Items;
+use std::alloc::{AllocError, Global};
+use strat_words::{
+    Cursor, FileFault, count, ends, first_is, last_fault, next, next_fault, next_is, start,
+};
+
+fn all_turns(word: &[u8]) -> bool
+    ensures { result ≡ list_all spec.is_turn word.now }
+{
+    word.iter().all(|b| *b == b'o' || *b == b't')
+}
+
+fn letters(alloc: Global, word: &[u8]) -> Result<Items<bool>, AllocError>
+    ensures { IfOk result (λ ts. ts ≡ map (λ b. b == 111) word.now) }
+{
+    let mut all = Items::new(alloc);
+    for b in word {
+        all.push(*b == b'o')?;
+    }
+    Ok(all)
+}
+
+fn turns_of(alloc: Global, word: &[u8]) -> Result<Option<Items<bool>>, AllocError>
+    ensures value { IfOk result (λ ts. ts ≡ spec.turns_of word.now) }
+    ensures short { IfOk result (λ ts. IfSome ts (λ ts. length ts ≤ 1024)) }
+{
+    if word == b"-".as_slice() {
+        Ok(Some(Items::new(alloc)))
+    } else if !word.is_empty() && all_turns(word) && word.len() < 1025 {
+        Ok(Some(letters(alloc, word)?))
+    } else {
+        Ok(None)
+    }
+}
+
+#[tactic(auto, unfolding(crate::specs::File::turns))]
+fn turns(alloc: Global, at: Cursor<'_>) -> Result<(Items<bool>, Cursor<'_>), FileFault>
+    ensures gives { Gives (λ x. (x.0, spot x.1)) result (spec.turns (spot at.entry)) }
+    ensures short { IfOk result (λ x. length x.0 ≤ 1024) }
+{
+    let after = first_is(at, b"turns")?;
+    let (word, after) = next(after)?;
+    let Some(turns) = turns_of(alloc, word)? else {
+        return Err(last_fault(after));
+    };
+    let after = ends(after)?;
+    Ok((turns, after))
+}
+
+fn verdict_of(word: &[u8]) -> Option<Option<Side>>
+    ensures { result ≡ spec.verdict_of word.now }
+{
+    if word == b"sat".as_slice() {
+        Some(Some(Side::Exists))
+    } else if word == b"unsat".as_slice() {
+        Some(Some(Side::Forall))
+    } else if word == b"unknown".as_slice() {
+        Some(None)
+    } else {
+        None
+    }
+}
+
+#[tactic(auto, unfolding(crate::specs::File::claimed))]
+fn claimed(
+    alloc: Global,
+    at: Cursor<'_>,
+    side: Side,
+    line: u64,
+) -> Result<(Section, Cursor<'_>), FileFault>
+    requires { line < 2 ^ 63 }
+    ensures gives { Gives (λ x. (x.0, spot x.1)) result (spec.claimed side line (spot at.entry)) }
+    ensures line { IfOk result (λ x. line_of x.0 < 2 ^ 63) }
+{
+    let (turns, after) = turns(alloc, at)?;
+    let (tree, after) = tree(alloc, after, turns.as_slice(), 0)?;
+    let (proof, after) = proof(alloc, after)?;
+    Ok((
+        Section::Claimed {
+            side,
+            turns,
+            tree,
+            proof,
+            line,
+        },
+        after,
+    ))
+}
+
+#[tactic(auto, unfolding(crate::specs::File::section))]
+fn section(alloc: Global, at: Cursor<'_>, number: u64) -> Result<(Section, Cursor<'_>), FileFault>
+    ensures gives { Gives (λ x. (x.0, spot x.1)) result (spec.section number (spot at.entry)) }
+    ensures line { IfOk result (λ x. line_of x.0 < 2 ^ 63) }
+{
+    let after = first_is(at, b"goal")?;
+    let mut buffer = Buffer::new();
+    let after = next_is(after, buffer.format(number).as_bytes())?;
+    let (word, after) = next(after)?;
+    let Some(verdict) = verdict_of(word) else {
+        return Err(last_fault(after));
+    };
+    let after = ends(after)?;
+    match verdict {
+        None => Ok((Section::Unknown, after)),
+        Some(side) => claimed(alloc, after, side, at.line),
+    }
+}
+
+fn sections(alloc: Global, at: Cursor<'_>, count: u64) -> Result<(Sections, Cursor<'_>), FileFault>
+    ensures gives { Gives (λ x. (x.0, spot x.1)) result (times spec.section spec.next_number count 0 (spot at.entry)) }
+    ensures lines { IfOk result (λ x. AllByRecursion (λ y. line_of y < 2 ^ 63) x.0) }
+{
+    let mut all = Sections::new(alloc);
+    let mut rest = at;
+    for number in 0..count {
+        let (item, after) = section(alloc, rest, number)?;
+        all.push(item)?;
+        rest = after;
+    }
+    Ok((all, rest))
+}
+
+#[tactic(auto, unfolding(crate::specs::File::file))]
+fn file(alloc: Global, at: Cursor<'_>) -> Result<Sections, FileFault>
+    ensures gives { Gives (λ xs. xs) result (spec.file (spot at.entry)) }
+    ensures lines { IfOk result (λ xs. AllByRecursion (λ y. line_of y < 2 ^ 63) xs) }
+{
+    let after = first_is(at, b"simsat-strategy")?;
+    let after = next_is(after, b"1")?;
+    let after = ends(after)?;
+    let after = first_is(after, b"goals")?;
+    let (n, after) = count(after, 0)?;
+    let after = ends(after)?;
+    let (all, after) = sections(alloc, after, n)?;
+    let after = first_is(after, b"end")?;
+    let after = ends(after)?;
+    if !after.rest.is_empty() {
+        return Err(next_fault(after));
+    }
+    Ok(all)
+}
+
+/// The sections that the bytes spell, each with its line; else the first word that does not fit.
+pub fn read_file(alloc: Global, bytes: &[u8]) -> Result<Sections, FileFault>
+    // What is read is spelled so.
+    ensures found { IfOk result (λ xs. Spells bytes.now xs) }
+    // What is spelled so is read, unless memory runs out.
+    ensures only { (xs : List Section) → Spells bytes.now xs → Gives (map without_line) result (Ok (map without_line xs)) }
+    // Which fault it is, and the line of each section.
+    ensures exact { Gives (λ xs. xs) result (spec.reading bytes.now) }
+    // The lines are far from the greatest u64.
+    ensures lines { IfOk result (λ xs. AllByRecursion (λ y. line_of y < 2 ^ 63) xs) }
+{
+    all(alloc, bytes)
+}
+
+fn all(alloc: Global, bytes: &[u8]) -> Result<Sections, FileFault>
+    ensures gives { Gives (λ xs. xs) result (spec.reading bytes.now) }
+    ensures lines { IfOk result (λ xs. AllByRecursion (λ y. line_of y < 2 ^ 63) xs) }
+{
+    file(alloc, start(bytes))
+}

@@ -1,0 +1,5 @@
+pub mod Numbers
+pub mod Loops
+pub mod WordLaws
+pub mod Laws
+pub mod Taken

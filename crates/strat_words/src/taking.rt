@@ -1,0 +1,90 @@
+//! Numbers, each the next word of a line.
+
+ghost use Rattle.std.specs.Prelude.{◌≡◌, ◌≤◌, ◌<◌, ◌+◌, ◌^◌, length, IfOk, nat_abs, pos, ◌≢◌};
+ghost use Rattle.lin_term.specs.Form.{cap};
+ghost use Rattle.strat_words.specs.Spot.{Gives, Spot};
+ghost use Rattle.strat_words.specs.View.{spot};
+ghost use Rattle.strat_words.specs.Taking as spec;
+
+use crate::cursor::Cursor;
+use crate::fault::FileFault;
+use crate::number::{coef_of, natural_of, signed_of};
+use crate::words::{last_fault, next};
+
+/// The next word as a number without a sign, from `low` to below `limit`.
+/// Another word is the fault, and so is a missing one.
+pub fn natural(at: Cursor<'_>, low: u128, limit: u128) -> Result<(u128, Cursor<'_>), FileFault>
+    ensures gives { Gives (λ x. (x.0, spot x.1)) result (spec.natural low limit (spot at.entry)) }
+    ensures least { IfOk result (λ x. low ≤ x.0) }
+    ensures below { IfOk result (λ x. x.0 < limit) }
+    ensures shorter { IfOk result (λ x. length x.1.rest.now < length at.entry.rest.now) }
+{
+    let (word, after) = next(at)?;
+    match natural_of(word, low, limit) {
+        Some(n) => Ok((n, after)),
+        None => Err(last_fault(after)),
+    }
+}
+
+/// The next word as a number with or without a sign, of a size below `limit`.
+/// Another word is the fault, and so is a missing one.
+pub fn signed(at: Cursor<'_>, limit: u128) -> Result<(i128, Cursor<'_>), FileFault>
+    requires { limit ≤ 2 ^ 127 }
+    ensures gives { Gives (λ x. (x.0, spot x.1)) result (spec.signed limit (spot at.entry)) }
+    ensures below { IfOk result (λ x. nat_abs x.0 < limit) }
+    ensures shorter { IfOk result (λ x. length x.1.rest.now < length at.entry.rest.now) }
+{
+    let (word, after) = next(at)?;
+    match signed_of(word, limit) {
+        Some(z) => Ok((z, after)),
+        None => Err(last_fault(after)),
+    }
+}
+
+/// One past the greatest size of a kept number.
+const PAST_CAP: u128 = 4_503_599_627_370_497;
+
+/// One past the greatest index.
+const PAST_INDEX: u128 = 4_294_967_296;
+
+/// The next word as an index, below 2^32.
+pub fn index(at: Cursor<'_>) -> Result<(u32, Cursor<'_>), FileFault>
+    ensures gives { Gives (λ x. (x.0, spot x.1)) result (spec.index (spot at.entry)) }
+    ensures shorter { IfOk result (λ x. length x.1.rest.now < length at.entry.rest.now) }
+{
+    let (n, after) = natural(at, 0, PAST_INDEX)?;
+    Ok((n as u32, after))
+}
+
+/// The next word as a count, from `low` to the cap.
+pub fn count(at: Cursor<'_>, low: u128) -> Result<(u64, Cursor<'_>), FileFault>
+    ensures gives { Gives (λ x. (x.0, spot x.1)) result (spec.count low (spot at.entry)) }
+    ensures least { IfOk result (λ x. low ≤ x.0) }
+    ensures within { IfOk result (λ x. x.0 ≤ cap) }
+    ensures shorter { IfOk result (λ x. length x.1.rest.now < length at.entry.rest.now) }
+{
+    let (n, after) = natural(at, low, PAST_CAP)?;
+    Ok((n as u64, after))
+}
+
+/// The next word as a number within the cap, `-2^52..=2^52`.
+pub fn kept(at: Cursor<'_>) -> Result<(i64, Cursor<'_>), FileFault>
+    ensures gives { Gives (λ x. (x.0, spot x.1)) result (spec.kept (spot at.entry)) }
+    ensures within { IfOk result (λ x. nat_abs x.0 ≤ cap) }
+    ensures shorter { IfOk result (λ x. length x.1.rest.now < length at.entry.rest.now) }
+{
+    let (z, after) = signed(at, PAST_CAP)?;
+    Ok((z as i64, after))
+}
+
+/// The next word as a number other than 0 within the cap.
+pub fn coef(at: Cursor<'_>) -> Result<(i64, Cursor<'_>), FileFault>
+    ensures gives { Gives (λ x. (x.0, spot x.1)) result (spec.coef (spot at.entry)) }
+    ensures shorter { IfOk result (λ x. length x.1.rest.now < length at.entry.rest.now) }
+{
+    let (word, after) = next(at)?;
+    match coef_of(word) {
+        Some(z) => Ok((z, after)),
+        None => Err(last_fault(after)),
+    }
+}
