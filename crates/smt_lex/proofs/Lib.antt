@@ -1,0 +1,7 @@
+pub mod FactLemmas
+pub mod GapLemmas
+pub mod KindLemmas
+pub mod PrefixLemmas
+pub mod SpellsLemmas
+pub mod TableLemmas
+pub mod TokensLemmas

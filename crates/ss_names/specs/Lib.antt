@@ -1,0 +1,4 @@
+pub mod Kind
+pub mod Words
+pub mod Table
+pub mod Vocabulary
