@@ -1,6 +1,8 @@
 pub mod Value
 pub mod Term
 pub mod Constant
+pub mod Size
+pub mod Worked
 pub mod Truth
 pub mod Formed
 pub mod View

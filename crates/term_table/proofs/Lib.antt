@@ -1,0 +1,11 @@
+pub mod Growth
+pub mod Formed
+pub mod Scoped
+pub mod SoundLemmas
+pub mod SoundMore
+pub mod Rings
+pub mod NodeSizes
+pub mod Pairs
+pub mod Rows
+pub mod Amounts
+pub mod FormLemmas

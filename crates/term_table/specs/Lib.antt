@@ -1,0 +1,10 @@
+pub mod Placed
+pub mod Built
+pub mod Meaning
+pub mod Order
+pub mod Worth
+pub mod Sound
+pub mod Scale
+pub mod Linear
+pub mod Form
+pub mod Entries
