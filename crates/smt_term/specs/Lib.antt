@@ -1,0 +1,9 @@
+pub mod Reading
+pub mod Scope
+pub mod Word
+pub mod Numeral
+pub mod Operator
+pub mod Apply
+pub mod Terms
+pub mod View
+pub mod Reads

@@ -1,0 +1,24 @@
+//! Expressions of SMT-LIB as terms.
+#![tactic(auto)]
+
+mod apply;
+mod index;
+mod making;
+mod number;
+mod operator;
+mod part;
+mod reader;
+mod seen;
+mod word;
+
+pub use apply::{application, checked, divided, expansion};
+pub use index::index_head;
+pub use number::{decimal, numeral};
+pub use operator::{Gives, Linear, Operator, Shape, Takes, Within, operator_named};
+pub use part::{Part, part_of};
+pub use reader::{Head, Reader, signature_of};
+pub use seen::Seen;
+pub use word::{is_free, is_reserved, is_symbol, is_word, sort_of};
+
+#[cfg(test)]
+mod tests;
