@@ -1,0 +1,6 @@
+(set-logic LRA)
+(declare-const a Real)
+(declare-const b Real)
+(assert (and (<= 0 a) (<= (+ a 3) 6) (<= 0 b) (<= (+ b 4) 6)))
+(assert (or (<= (+ a 3) b) (<= (+ b 4) a)))
+(check-sat)

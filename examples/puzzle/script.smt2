@@ -1,0 +1,7 @@
+(set-logic LIA)
+(declare-const hens Int)
+(declare-const rabbits Int)
+(assert (and (>= hens 0) (>= rabbits 0)))
+(assert (= (+ hens rabbits) 35))
+(assert (= (+ (* 2 hens) (* 4 rabbits)) 94))
+(check-sat)
