@@ -1,11 +1,9 @@
 -- Terms that ascend, with no 0, of any size.
-use Prim.Native.Nat.{◌∣◌}
 use Rattle.std.specs.Prelude.{ℕ, zero, suc, ◌+◌, ◌<◌, ◌≤◌, ◌≢◌, ◌^◌, ◌≡◌, ℤ, pos, negsuc, ◌+ℤ◌, ◌*ℤ◌, nat_abs, None, List, [], ◌∷◌, ltb, eqb, cond, ⊤}
-use Rattle.std.proofs.Common.{arith, refl, subst, sym, ap, ◌∙◌, ltb-false, ltb-true}
-use Rattle.std.proofs.lemmas.Int.{ints}
+use Rattle.std.proofs.Common.{arith, sym, ap, ◌∙◌, ltb-false, ltb-true}
 use Rattle.std.proofs.lemmas.Bool.{cond_both}
-use Rattle.lin_term.specs.Form.{Form, AreTerms, IsRow, cap}
-use Rattle.lin_term.specs.Linear.{put_front, put, plus_terms, times_terms, floor_div}
+use Rattle.lin_term.specs.Form.{Form, AreTerms, IsRow}
+use Rattle.lin_term.specs.Linear.{put_front, put, plus_terms, times_terms}
 use Rattle.lin_term.specs.Literal.{quotient_terms, reduce_terms, residue}
 use Rattle.lin_term.specs.PutIn.{without}
 use Rattle.lin_term.specs.Wide.{coefficients, first_past, form_numbers}

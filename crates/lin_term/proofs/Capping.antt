@@ -1,7 +1,6 @@
 -- The first number past the cap.
-use Rattle.std.specs.Prelude.{ℕ, zero, suc, ◌+◌, ◌<◌, ◌≤◌, ◌≢◌, ◌^◌, ◌≡◌, ◌⊎◌, ℤ, pos, negsuc, nat_abs, nat_le, Bool, true, false, Option, Some, None, List, [], ◌∷◌, ◌++◌, cond}
-use Rattle.std.proofs.Common.{arith, refl, subst, sym, ap, ◌∙◌, inl, inr, le-leb}
-use Rattle.std.proofs.lemmas.Int.{ints}
+use Rattle.std.specs.Prelude.{ℕ, ◌+◌, ◌<◌, ◌≤◌, ◌≡◌, ℤ, nat_abs, true, false, Some, None, List, [], ◌∷◌, ◌++◌}
+use Rattle.std.proofs.Common.{refl, sym, ◌∙◌, inl, inr, le-leb}
 use Rattle.std.proofs.lemmas.Bool.{cond-true, cond-false, cases_lt, lt-leb, leb-true, leb-false}
 use Rattle.lin_term.specs.Form.{Form, AreTerms, IsRow, cap}
 use Rattle.lin_term.specs.Wide.{fits, first_past, coefficients, form_numbers}

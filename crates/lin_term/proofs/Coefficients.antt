@@ -1,6 +1,6 @@
 -- The coefficient of a variable in ascending terms, from some place on.
-use Rattle.std.specs.Prelude.{ℕ, ◌+◌, ◌<◌, ◌≤◌, ◌≡◌, ◌≢◌, ℤ, pos, ◌+ℤ◌, Bool, true, false, cond, eqb, List, [], ◌∷◌, length, get_or, drop}
-use Rattle.std.proofs.Common.{arith, ap, ◌∙◌, sym, subst, refl, eqb-true}
+use Rattle.std.specs.Prelude.{ℕ, ◌+◌, ◌<◌, ◌≡◌, ◌≢◌, ℤ, pos, ◌+ℤ◌, Bool, true, false, cond, eqb, List, [], ◌∷◌, length, get_or, drop}
+use Rattle.std.proofs.Common.{arith, ap, ◌∙◌, subst, refl, eqb-true}
 use Rattle.std.proofs.lemmas.Int.{ints}
 use Rattle.std.proofs.lemmas.Bool.{eqb-false}
 use Rattle.std.proofs.lemmas.List.{drop_more}

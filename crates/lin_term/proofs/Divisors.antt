@@ -1,8 +1,8 @@
 -- Laws of the greatest common divisor.
 use Prim.Native.Nat.{◌∣◌}
-use Rattle.std.specs.Prelude.{ℕ, ◌+◌, ◌≡◌, ◌%◌, ◌<◌, ℤ, nat_abs, List, [], ◌∷◌, drop, get_or, length}
+use Rattle.std.specs.Prelude.{ℕ, ◌+◌, ◌≡◌, ◌%◌, ◌<◌, ℤ, nat_abs, List, drop, get_or, length}
 use Rattle.std.specs.Int.{IsGcd}
-use Rattle.std.proofs.Common.{arith, ap, ap₂, ◌∙◌, sym, subst, refl}
+use Rattle.std.proofs.Common.{◌∙◌, subst, refl}
 use Rattle.std.proofs.lemmas.Nat.Gcd.{IsGcd-from_mod, IsGcd-from_zero, same_from_IsGcd, dvd_trans, dvd_refl, IsGcd-swap}
 use Rattle.std.proofs.lemmas.List.{at_drop_more}
 use Rattle.std.proofs.Math.Nat.{one-dvd}

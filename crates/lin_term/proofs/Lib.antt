@@ -18,3 +18,10 @@ pub mod Negating
 pub mod Coefficients
 pub mod Sizes
 pub mod PuttingLemmas
+pub mod Lowering
+pub mod Defining
+pub mod KeptMoves
+pub mod Renamed
+pub mod Contraries
+pub mod Fixed
+pub mod Replacing

@@ -45,7 +45,7 @@ scaled_terms (t ∷ ts) g o d =
     sym (scaled_gcd g (nat_abs (floor_div t.1 g)) (gcd_terms (quotient_terms ts g)) o)
     ∙ ap₂ (λ (a b : ℕ). gcd a b) (abs_floor t.1 g o d.0) (scaled_terms ts g o d.1)
 
-rest_one : (c d : ℕ) → or_one c * d ≡ c → or_one d ≡ 1
+pub rest_one : (c d : ℕ) → or_one c * d ≡ c → or_one d ≡ 1
 rest_one zero zero e = refl
 rest_one zero (suc d) e = absurd (omega arith)
 rest_one (suc c) zero e = absurd (omega arith)
@@ -53,12 +53,12 @@ rest_one (suc c) (suc zero) e = refl
 rest_one (suc c) (suc (suc d)) e = let m = mul-le-mul_left (suc c) (let q : 2 ≤ suc (suc d) = omega arith in q) in absurd (omega arith)
 
 -- what is left has the divisor 1
-whole_one : (ts : List (ℕ × ℤ)) → or_one (gcd_terms (quotient_terms ts (or_one (gcd_terms ts)))) ≡ 1
+pub whole_one : (ts : List (ℕ × ℤ)) → or_one (gcd_terms (quotient_terms ts (or_one (gcd_terms ts)))) ≡ 1
 whole_one ts =
     rest_one (gcd_terms ts) (gcd_terms (quotient_terms ts (or_one (gcd_terms ts))))
     (scaled_terms ts (or_one (gcd_terms ts)) (or_one_pos (gcd_terms ts)) (or_one_terms (gcd_terms ts) ts (gcd_divides ts)))
 
-rat_one : (f : Form) → divisor Rat (quotient f (divisor Rat f)) ≡ 1
+pub rat_one : (f : Form) → divisor Rat (quotient f (divisor Rat f)) ≡ 1
 rat_one f =
     let c : ℕ = gcd (nat_abs f.constant) (gcd_terms f.terms) in
     let h = gcd_is (nat_abs f.constant) (gcd_terms f.terms) in
@@ -162,7 +162,7 @@ reduce_same : (d : ℕ) (ts : List (ℕ × ℤ)) → AllSmall d ts → reduce_te
 reduce_same d [] h = refl
 reduce_same d (t ∷ ts) h = front_same d t.0 t.1 (reduce_terms d ts) ts h.0 (reduce_same d ts h.1)
 
-times_one : (g x : ℕ) → 1 ≤ g → g * x ≡ g → x ≡ 1
+pub times_one : (g x : ℕ) → 1 ≤ g → g * x ≡ g → x ≡ 1
 times_one g zero o e = absurd (omega arith)
 times_one g (suc zero) o e = refl
 times_one g (suc (suc x)) o e = let m = mul-le-mul_left g (let q : 2 ≤ suc (suc x) = omega arith in q) in absurd (omega arith)

@@ -1,13 +1,12 @@
 -- The sum of two ascending lists of terms, from the front.
-use Rattle.std.specs.Prelude.{ℕ, zero, suc, ◌+◌, ◌<◌, ◌≤◌, ◌≡◌, ℤ, pos, negsuc, ◌+ℤ◌, ◌*ℤ◌, List, [], ◌∷◌, ◌++◌, ltb, eqb, cond, true, false, drop, length, get_or, ◌≢◌, ⊤}
-use Rattle.std.proofs.Common.{arith, ap, ◌∙◌, sym, subst, refl, ap₂, append_assoc, inl, inr, lt-ltb, le-ltb}
-use Rattle.std.proofs.lemmas.List.{drop-drop}
+use Rattle.std.specs.Prelude.{ℕ, zero, suc, ◌+◌, ◌<◌, ◌≤◌, ◌≡◌, ℤ, pos, negsuc, ◌+ℤ◌, ◌*ℤ◌, List, [], ◌∷◌, ◌++◌, ltb, eqb, cond, drop, length, get_or, ⊤}
+use Rattle.std.proofs.Common.{arith, ap, ◌∙◌, sym, subst, refl, ap₂, inl, inr, lt-ltb, le-ltb}
 use Rattle.std.proofs.lemmas.Int.{ints}
 use Rattle.std.proofs.lemmas.Bool.{cases_order, cases_Bool, cond_both, cond-true, cond-false}
 use lib.IntN.{+ℤ_idl, +ℤ_idr}
 use Rattle.lin_term.specs.Blend.{sum_terms, unless, IsHead}
 use Rattle.lin_term.specs.PutIn.{without}
-use Rattle.lin_term.specs.Form.{AreTerms, cap}
+use Rattle.lin_term.specs.Form.{AreTerms}
 use Rattle.lin_term.specs.Linear.{put_front, put, plus_terms, times_terms}
 
 -- each variable is above i

@@ -1,9 +1,9 @@
 -- Negated coefficients.
-use Rattle.std.specs.Prelude.{ℕ, zero, suc, ◌+◌, ◌<◌, ◌≤◌, ◌≢◌, ◌≡◌, ℤ, pos, negsuc, ◌+ℤ◌, ◌-ℤ◌, ◌*ℤ◌, nat_abs, List, [], ◌∷◌, ◌++◌, length, get_or, drop, take}
+use Rattle.std.specs.Prelude.{ℕ, zero, suc, ◌+◌, ◌<◌, ◌≢◌, ◌≡◌, ℤ, pos, negsuc, ◌+ℤ◌, ◌-ℤ◌, ◌*ℤ◌, nat_abs, List, [], ◌∷◌, ◌++◌, length, get_or, drop, take}
 use Rattle.std.proofs.Common.{arith, refl, subst, sym, ap, ap₂, ◌∙◌}
 use Rattle.std.proofs.lemmas.Int.{ints}
 use Rattle.std.proofs.Math.ListN.{set}
-use Rattle.lin_term.specs.Form.{AreTerms, IsRow, cap}
+use Rattle.lin_term.specs.Form.{AreTerms, IsRow}
 use Rattle.lin_term.specs.Linear.{Form, put_front, put, plus_terms, times_terms}
 use Rattle.lin_term.specs.Literal.{minus_one}
 use Rattle.lin_term.specs.Settle.{sum_form}

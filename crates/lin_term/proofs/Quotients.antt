@@ -1,7 +1,7 @@
 -- Divided coefficients.
 use Prim.Native.Nat.{◌∣◌}
 use Rattle.std.specs.Prelude.{ℕ, zero, suc, ◌+◌, ◌/◌, ◌*ℤ◌, max, ◌<◌, ◌≤◌, ◌≢◌, ◌≡◌, ℤ, pos, negsuc, nat_abs, List, [], ◌∷◌, ◌++◌, length, get_or, drop, take}
-use Rattle.std.proofs.Common.{arith, refl, subst, sym, ap, ◌∙◌, add-one}
+use Rattle.std.proofs.Common.{arith, refl, subst, sym, ap, ◌∙◌}
 use Rattle.std.proofs.lemmas.Int.{ints}
 use Rattle.std.proofs.Math.ListN.{set}
 use Rattle.std.proofs.lemmas.Nat.Gcd.{le_of_dvd}

@@ -1,10 +1,9 @@
 -- Divisors and quotients of a sum, term by term from the front.
-use Rattle.std.specs.Prelude.{ℕ, zero, suc, ◌+◌, ◌<◌, ◌≤◌, ◌≡◌, ℤ, pos, negsuc, nat_abs, Option, Some, None, Result, Ok, Err, List, [], ◌∷◌, ◌++◌, drop}
-use Rattle.std.proofs.Common.{arith, refl, subst, sym, ap, ap₂, ◌∙◌, append_assoc, append-nil}
-use Rattle.std.proofs.lemmas.Int.{ints}
+use Rattle.std.specs.Prelude.{ℕ, zero, suc, ◌+◌, ◌≡◌, ℤ, pos, negsuc, nat_abs, Some, None, Err, List, [], ◌∷◌, ◌++◌, drop}
+use Rattle.std.proofs.Common.{arith, refl, sym, ap, ap₂, ◌∙◌, append_assoc, append-nil}
 use Rattle.std.proofs.lemmas.List.{drop-drop}
-use Rattle.lin_term.specs.Linear.{put_front, floor_div}
-use Rattle.lin_term.specs.Literal.{gcd, gcd_terms, quotient_terms, reduce_terms, residue}
+use Rattle.lin_term.specs.Linear.{put_front}
+use Rattle.lin_term.specs.Literal.{gcd, gcd_terms, quotient_terms, reduce_terms}
 use Rattle.lin_term.specs.Blend.{reduce_by, residue_by, sum_terms}
 use Rattle.smallvec.specs.SmallVec.{SmallVec}
 use Rattle.lin_term.specs.declared.fault.Short.{Short}

@@ -1,16 +1,16 @@
 -- The primitive form of a divisibility, from the reduced terms of a sum.
 use Prim.Native.Nat.{◌∣◌}
-use Rattle.std.specs.Prelude.{ℕ, zero, suc, ◌/◌, ◌<◌, ◌≤◌, ◌≡◌, ℤ, pos, negsuc, nat_abs, false, ◌≤ℤ◌, Option, Some, None, Result, Ok, Err, List, [], ◌∷◌}
-use Rattle.std.proofs.Common.{arith, refl, subst, sym, ap, ap₂, ◌∙◌}
+use Rattle.std.specs.Prelude.{ℕ, zero, suc, ◌/◌, ◌<◌, ◌≤◌, ◌≡◌, ℤ, pos, negsuc, nat_abs, false, ◌≤ℤ◌, Some, None, Result, Err, List, ◌∷◌}
+use Rattle.std.proofs.Common.{arith, refl, subst, sym, ap, ◌∙◌}
 use Rattle.std.proofs.lemmas.Int.{ints}
 use Rattle.std.proofs.lemmas.Nat.Gcd.{dvd_trans, le_of_dvd}
 use Rattle.std.proofs.Math.Nat.{eq-zero_of_zero-dvd}
 use Rattle.lin_term.specs.Form.{AreTerms, cap}
 use Rattle.lin_term.specs.Linear.{Sort, Rat, Int, Form, times, floor_div}
-use Rattle.lin_term.specs.Literal.{gcd, gcd_terms, quotient_terms, quotient, reduce, reduce_terms, residue, common_divisor, modulus_of, residue_form, Lit, AtLeast, Above, Divides, NotDivides, prim, neg, IsPrimitive}
+use Rattle.lin_term.specs.Literal.{gcd, gcd_terms, quotient_terms, reduce, reduce_terms, residue, common_divisor, modulus_of, residue_form, Lit, AtLeast, Above, Divides, NotDivides, prim, neg, IsPrimitive}
 use Rattle.lin_term.specs.Wide.{Capped, lit_numbers, fits, coefficients, first_past, form_numbers}
 use Rattle.lin_term.specs.Blend.{reduce_by, residue_by, sum_terms}
-use Rattle.lin_term.specs.Settle.{sum_form, CappedResidues}
+use Rattle.lin_term.specs.Settle.{CappedResidues}
 use Rattle.lin_term.specs.declared.fault.Short.{Short}
 use Rattle.lin_term.specs.declared.fault.Short.TheVariants as short
 use Rattle.lin_term.specs.declared.fault.Wide.{Wide}

@@ -1,10 +1,10 @@
 -- The primitive form of a sum, from its divided terms.
-use Rattle.std.specs.Prelude.{ℕ, max, ◌≤◌, ◌≡◌, ℤ, pos, negsuc, nat_abs, Bool, true, false, ◌==◌, Option, Some, None, Result, Ok, Err, List, [], ◌∷◌, length}
+use Rattle.std.specs.Prelude.{ℕ, max, ◌≤◌, ◌≡◌, ℤ, nat_abs, Bool, false, ◌==◌, None, Result, Err, List, [], ◌∷◌, length}
 use Rattle.std.proofs.Common.{arith, refl, subst, sym, ap, ap₂, ◌∙◌}
 use Rattle.std.proofs.lemmas.Bool.{ne_eqb}
-use Rattle.lin_term.specs.Form.{AreTerms, cap}
+use Rattle.lin_term.specs.Form.{AreTerms}
 use Rattle.lin_term.specs.Linear.{Sort, Rat, Int, Form}
-use Rattle.lin_term.specs.Literal.{divisor, quotient_terms, quotient, gcd, gcd_terms, or_one, whole_form}
+use Rattle.lin_term.specs.Literal.{divisor, quotient_terms, gcd, gcd_terms, or_one, whole_form}
 use Rattle.lin_term.specs.Wide.{Capped, coefficients, first_past, form_numbers}
 use Rattle.lin_term.specs.Blend.{sum_terms}
 use Rattle.lin_term.specs.Items.{CappedTerms}

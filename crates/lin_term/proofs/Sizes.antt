@@ -1,9 +1,9 @@
 -- The sizes of the numbers of a sum, and of their divisor.
-use Rattle.std.specs.Prelude.{ℕ, zero, suc, ◌+◌, ◌*◌, ◌<◌, ◌≤◌, ◌≡◌, ◌^◌, ℤ, pos, negsuc, ◌+ℤ◌, ◌*ℤ◌, nat_abs, Bool, List, [], ◌∷◌, ltb, cond, eqb, ⊤}
-use Rattle.std.proofs.Common.{arith, ap, ◌∙◌, sym, subst, refl, ltb-false, ltb-true, mul-le-mul}
+use Rattle.std.specs.Prelude.{ℕ, zero, suc, ◌+◌, ◌<◌, ◌≤◌, ◌^◌, ℤ, pos, negsuc, ◌+ℤ◌, ◌*ℤ◌, nat_abs, List, [], ◌∷◌, ltb, cond, eqb, ⊤}
+use Rattle.std.proofs.Common.{arith, ltb-false, mul-le-mul}
 use Rattle.std.proofs.lemmas.Int.{ints}
 use Rattle.std.proofs.lemmas.Bool.{cond_both}
-use Rattle.lin_term.specs.Form.{Form, AreTerms, cap}
+use Rattle.lin_term.specs.Form.{AreTerms, cap}
 use Rattle.lin_term.specs.Linear.{Sort, Rat, Int, put_front, put, plus_terms, times_terms}
 use Rattle.lin_term.specs.Literal.{gcd, gcd_terms, or_one, divisor}
 use Rattle.lin_term.specs.PutIn.{without}

@@ -1,19 +1,18 @@
 -- Sums of inequalities in primitive form.
-use Rattle.std.specs.Prelude.{ℕ, ◌+◌, ◌<◌, ◌≤◌, ◌≡◌, ◌≢◌, ◌^◌, ℤ, pos, nat_abs, ◌+ℤ◌, ◌*ℤ◌, Bool, true, false, ◌||◌, Option, Some, None, Result, Ok, Err, IfOk, List, [], ◌∷◌, eqb, cond, ⊤}
+use Rattle.std.specs.Prelude.{ℕ, ◌+◌, ◌≤◌, ◌≡◌, ◌≢◌, ◌^◌, ℤ, ◌+ℤ◌, ◌*ℤ◌, Bool, true, false, ◌||◌, Some, Result, Ok, Err, IfOk, List, [], ◌∷◌, eqb}
 use Rattle.std.proofs.Common.{arith, refl, subst, sym, ap, ap₂, ◌∙◌}
 use Rattle.std.proofs.lemmas.Bool.{cond-false, ne_eqb}
-use Rattle.lin_term.specs.Form.{AreTerms, cap}
+use Rattle.lin_term.specs.Form.{AreTerms}
 use Rattle.lin_term.specs.Linear.{Sort, Rat, Int, Form, plus, times, plus_terms, times_terms}
 use Rattle.lin_term.specs.Literal.{Lit, AtLeast, Above, Divides, NotDivides, form_of, prim, divisor, IsPrimitive}
 use Rattle.lin_term.specs.PutIn.{without}
-use Rattle.lin_term.specs.Sum.{IsInequality, is_strict, inequality_with, sum_of, MayBe, Combined, combine_fault}
+use Rattle.lin_term.specs.Sum.{IsInequality, is_strict, inequality_with, MayBe, Combined, combine_fault}
 use Rattle.lin_term.specs.Wide.{Capped, form_numbers, lit_numbers, first_past}
 use Rattle.lin_term.specs.Settle.{sum_form, settled}
 use Rattle.lin_term.proofs.Lowest.{prim_again}
 use Rattle.lin_term.specs.declared.fault.Short.{Short}
 use Rattle.lin_term.specs.declared.fault.Short.TheVariants as short
 use Rattle.lin_term.specs.declared.fault.Wide.{Wide}
-use Rattle.lin_term.specs.declared.combining.CombineFault.{CombineFault}
 use Rattle.lin_term.specs.declared.combining.CombineFault.TheVariants as fault
 
 pub may_be : (s : Sort) (l : Lit) → IsPrimitive s l → MayBe s (is_strict l)

@@ -1,6 +1,6 @@
 -- Ascending terms within the cap.
-use Rattle.std.specs.Prelude.{ℕ, zero, suc, ◌+◌, ◌<◌, ◌≤◌, ◌≢◌, ◌^◌, ◌≡◌, ℤ, pos, negsuc, nat_abs, List, [], ◌∷◌, length, get_or, drop}
-use Rattle.std.proofs.Common.{arith, refl, subst, sym, ap, w64, SFits, to_z-of_z, to_z, of_z, ◌∙◌}
+use Rattle.std.specs.Prelude.{ℕ, zero, suc, ◌+◌, ◌<◌, ◌≤◌, ◌^◌, ◌≡◌, ℤ, nat_abs, List, [], ◌∷◌, length, get_or, drop}
+use Rattle.std.proofs.Common.{arith, subst, w64, SFits, to_z-of_z, to_z, of_z}
 use mir.Syntax.{w128}
 use lib.Signed.{mag}
 use Rattle.std.proofs.lemmas.Int.{ints}

@@ -1,12 +1,8 @@
 -- The sum of multiples of two rows' terms.
-use Rattle.std.specs.Prelude.{ℕ, zero, suc, ◌<◌, ◌≡◌, ℤ, pos, ◌+ℤ◌, ◌*ℤ◌, Bool, if◌then◌else◌, nat_eq, Option, Some, None, Result, Ok, Err, List, [], ◌∷◌, drop, ⊤}
-use Rattle.lin_term.specs.Linear.{times_terms, plus_terms, put_front}
+use Rattle.std.specs.Prelude.{ℕ, zero, suc, ◌<◌, ◌≡◌, ℤ, pos, ◌+ℤ◌, if◌then◌else◌, nat_eq, List}
+use Rattle.lin_term.specs.Linear.{times_terms, plus_terms}
 use Rattle.lin_term.specs.Literal.{reduce_terms, residue}
 use Rattle.lin_term.specs.PutIn.{without}
-use Rattle.lin_term.specs.Wide.{coefficients, first_past}
-use Rattle.lin_term.specs.declared.fault.Short.{Short}
-use Rattle.lin_term.specs.declared.fault.Short.TheVariants as short
-use Rattle.lin_term.specs.declared.fault.Wide.{Wide}
 
 -- modulo d; 0 leaves the terms as they are
 abbrev pub reduce_by : ℕ → List (ℕ × ℤ) → List (ℕ × ℤ)

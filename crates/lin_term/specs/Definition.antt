@@ -1,8 +1,8 @@
 -- The literals that define a move's value, and the moves that are kept.
-use Rattle.std.specs.Prelude.{ℕ, ◌≡◌, ◌^◌, ℤ, pos, ◌-ℤ◌, neg_ℤ, Option, None, List, [], ◌∷◌, ◌++◌}
+use Rattle.std.specs.Prelude.{ℕ, ◌≡◌, ◌^◌, ℤ, pos, ◌-ℤ◌, neg_ℤ, None, List, ◌∷◌, ◌++◌}
 use Rattle.lin_term.specs.Linear.{Sort, Rat, Int, Form, plus, times, constant_form, variable_form, rename}
 use Rattle.lin_term.specs.Literal.{Lit, AtLeast, prim}
-use Rattle.lin_term.specs.Move.{Move, IsLowest, lowest}
+use Rattle.lin_term.specs.Move.{Move, IsLowest}
 use Rattle.lin_term.specs.Wide.{form_numbers, lit_numbers, first_past}
 
 -- div*v - numer, and in Int div - 1 more

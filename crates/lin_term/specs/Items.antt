@@ -1,5 +1,5 @@
 -- Terms in a vector, within the cap.
-use Rattle.std.specs.Prelude.{ℕ, ◌≡◌, ℤ, Option, Some, None, Result, Ok, Err, List, ◌++◌, ⊤}
+use Rattle.std.specs.Prelude.{ℕ, ◌≡◌, ℤ, Some, None, Result, Ok, Err, List, ◌++◌, ⊤}
 use Rattle.smallvec.specs.SmallVec.{SmallVec}
 use Rattle.lin_term.specs.Wide.{coefficients, first_past}
 use Rattle.lin_term.specs.declared.fault.Short.{Short}

@@ -12,3 +12,7 @@ pub mod Blend
 pub mod Items
 pub mod Settle
 pub mod PutWith
+pub mod Rising
+pub mod Upper
+pub mod Fixing
+pub mod Replaced

@@ -1,5 +1,5 @@
 -- The primitive form of a sum that is not kept as a form.
-use Rattle.std.specs.Prelude.{ℕ, ◌≡◌, ℤ, pos, nat_abs, Option, Some, None, Result, Ok, Err, Bool, true, false, List, ◌∷◌, ⊤}
+use Rattle.std.specs.Prelude.{ℕ, ◌≡◌, ℤ, pos, nat_abs, Some, None, Result, Ok, Err, Bool, true, false, List, ◌∷◌, ⊤}
 use Rattle.lin_term.specs.Linear.{Sort, Rat, Int, Form, floor_div}
 use Rattle.lin_term.specs.Literal.{divisor, quotient, whole_form, modulus_of, residue_form, sign_of}
 use Rattle.lin_term.specs.Blend.{sum_terms}

@@ -1,5 +1,5 @@
 -- Sums of inequalities.
-use Rattle.std.specs.Prelude.{ℕ, ◌≡◌, ◌≢◌, ℤ, pos, nat_abs, Bool, true, false, ◌||◌, Option, Some, None, Result, Ok, Err, ⊤}
+use Rattle.std.specs.Prelude.{ℕ, ◌≡◌, ◌≢◌, ℤ, Bool, true, false, ◌||◌, Some, None, Result, Ok, Err, ⊤}
 use Rattle.lin_term.specs.Linear.{Sort, Rat, Int, Form, plus, times}
 use Rattle.lin_term.specs.Literal.{Lit, AtLeast, Above, Divides, NotDivides, form_of, divisor, prim}
 use Rattle.lin_term.specs.Wide.{first_past, lit_numbers}

@@ -1,6 +1,5 @@
 -- The truth of literals without variables.
 use Rattle.std.specs.Prelude.{ℕ, ◌%◌, ℤ, pos, nat_abs, Bool, not, nat_eq, int_le, int_lt, Option, Some, None, List, [], ◌∷◌}
-use Rattle.lin_term.specs.Form.{Form}
 use Rattle.lin_term.specs.Literal.{Lit, AtLeast, Above, Divides, NotDivides, form_of}
 
 abbrev pub divides_number : ℕ → ℤ → Bool

@@ -14,7 +14,7 @@ use smallvec::SmallVec;
 use std::alloc::Global;
 
 /// The product of two kept numbers.
-pub(crate) fn product(p: i64, a: i64) -> i128
+pub fn product(p: i64, a: i64) -> i128
     requires p_kept { nat_abs p ≤ cap }
     requires a_kept { nat_abs a ≤ cap }
     ensures value { result ≡ p *ℤ a }
@@ -122,7 +122,7 @@ pub(crate) fn reduced(coef: i128, modulus: i128) -> i128
 }
 
 /// The greatest common divisor of a number and the coefficients of a sum, these modulo a number.
-pub(crate) fn common_of_sum(
+pub fn common_of_sum(
     start: u128,
     modulus: i128,
     p: i64,
@@ -173,7 +173,7 @@ fn push_quotient(out: &mut Coefs, var: u32, coef: i128, g: i128) -> Result<(), S
 }
 
 /// The terms of a sum, modulo a number, divided by a number and rounded down.
-pub(crate) fn quotients_of_sum(
+pub fn quotients_of_sum(
     alloc: Global,
     modulus: i128,
     g: i128,

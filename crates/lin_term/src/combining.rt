@@ -1,6 +1,6 @@
 //! Sums of inequalities.
 
-ghost use Rattle.std.specs.Prelude.{◌≡◌, ◌≤◌, ◌^◌, ℕ, ℤ, pos, ◌≤ℤ◌, ◌+ℤ◌, ◌*ℤ◌, ◌||◌, nat_abs};
+ghost use Rattle.std.specs.Prelude.{◌≡◌, ◌≤◌, ◌↔◌, ◌^◌, IsTrue, ℕ, ℤ, pos, ◌≤ℤ◌, ◌+ℤ◌, ◌*ℤ◌, ◌||◌, nat_abs};
 ghost use Rattle.lin_term.specs.Form.{AreTerms, cap};
 ghost use Rattle.lin_term.specs.Literal.{IsPrimitive, form_of};
 ghost use Rattle.lin_term.specs.Sum.{IsInequality, sum_of, Combined, MayBe, is_strict as is_strict_literal, inequality_with, combine_fault};
@@ -84,13 +84,20 @@ fn combined(
     ensures { Combined sort (inequality_with strict (sum_form p left.now q right.now (2 ^ 20) constant)) (nat_abs g) result }
 {
     let divisor = divisor_of_sum(sort, p, left, q, right, NO_VARIABLE, constant);
-    if divisor != g.unsigned_abs() {
+    if !is_divisor(divisor, g) {
         return Err(CombineFault::Divisor);
     }
     match inequality_row(alloc, sort, g, p, left, q, right, NO_VARIABLE, constant) {
         Ok(row) => Ok(inequality(strict, row)),
         Err(fault) => Err(fault_of(fault)),
     }
+}
+
+/// Whether the given number is the divisor.
+fn is_divisor(divisor: u128, g: i128) -> bool
+    ensures { IsTrue result ↔ divisor ≡ nat_abs g }
+{
+    divisor == g.unsigned_abs()
 }
 
 /// A number past the cap, or want of memory, as a fault of a sum.

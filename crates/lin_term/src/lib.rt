@@ -6,6 +6,7 @@ mod blend;
 mod closed;
 mod coefficient;
 mod combining;
+mod definition;
 mod fault;
 mod lit;
 mod moves;
@@ -16,15 +17,17 @@ mod row;
 mod settle;
 
 pub use adding::add_multiples;
+pub use blend::{common_of_sum, product, quotients_of_sum};
 pub use closed::closed_truth;
 pub use coefficient::coefficient_at;
 pub use combining::{CombineFault, combine};
+pub use definition::{Defined, definition_literals, renamed_row};
 pub use fault::{Memory, Short, Wide};
 pub use lit::Lit;
 pub use moves::Move;
-pub use numbers::gcd_of_words;
+pub use numbers::{floor_quotient, gcd_of, gcd_of_words, is_within};
 pub use primitive_form::{negate, primitive};
-pub use putting::{divides_in, put_in};
+pub use putting::{divides_in, put_in, substitute};
 pub use row::{CAP, Coefs, Row, Sort};
 
 #[cfg(test)]

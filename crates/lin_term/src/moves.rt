@@ -1,10 +1,17 @@
 //! Moves: a linear form over a divisor.
 
-ghost use Rattle.std.specs.Prelude.{◌≡◌, ◌≤◌, ℤ, pos, nat_abs, ◌≤ℤ◌, IfOk};
-ghost use Rattle.lin_term.specs.Form.{Form, cap};
+ghost use Rattle.std.specs.Prelude.{◌≡◌, ◌≤◌, ◌^◌, ℤ, pos, nat_abs, ◌≤ℤ◌, IfOk, IsTrue, ◌↔◌, ◌/◌};
+ghost use Rattle.lin_term.specs.Form.{Form, AreTerms, cap};
+ghost use Rattle.lin_term.specs.Literal.{quotient, quotient_terms};
+ghost use Rattle.lin_term.specs.Move.{IsMove, move_divisor, lowest, IsLowest};
+ghost use Rattle.lin_term.specs.Definition.{move_numbers, IsKept};
+ghost use Rattle.lin_term.specs.Upper.{upper_constant as upper_constant_of};
+ghost use Rattle.lin_term.specs.Wide.{Capped};
 
-use crate::fault::Memory;
-use crate::row::Row;
+use crate::fault::{Memory, Short, Wide};
+use crate::numbers::{common_divisor, floor_of_words, gcd_of_words};
+use crate::primitive_form::divide_all;
+use crate::row::{CAP, Coefs, Row, Sort};
 use std::alloc::Global;
 use std::marker::Model;
 
@@ -28,6 +35,26 @@ impl Model for Move {
 }
 
 impl Move {
+    /// The move in lowest form; the divisor lies in `1..=CAP`. Wide comes exactly where a number of that form or of its two
+    /// definition literals is past the cap, and names the first: divisor, coefficients, constant, literal 0, literal 1.
+    pub fn make(sort: Sort, row: Row, div: i64) -> Result<Move, Short<Wide>>
+        requires least { pos 1 ≤ℤ div }
+        requires greatest { nat_abs div ≤ cap }
+        ensures { let m = lowest sort (record { numer = row; div = nat_abs div }) in Capped (move_numbers sort m) m result }
+    {
+        with_definition(sort, lowest_form(sort, row, div))
+    }
+
+    /// Whether the move is in lowest form, and its numbers and those of its definition literals are within the cap.
+    pub fn is_kept(&self, sort: Sort) -> bool
+        ensures { IsTrue result ↔ IsKept sort self.now }
+    {
+        let row = self.row();
+        let g = divisor_of(sort, row.coefs(), row.constant_part(), self.div());
+        let number = definition_constant(sort, self);
+        is_one_and_within(g, number)
+    }
+
     /// The move as written, in lowest form or not.
     pub fn from_parts(row: Row, div: i64) -> Move
         requires least { pos 1 ≤ℤ div }
@@ -60,4 +87,91 @@ impl Move {
         let row = self.row.copy(alloc)?;
         Ok(Move { row, div: self.div })
     }
+}
+
+/// The divisor of a move: in Rat of all its numbers, in Int of its divisor and coefficients.
+fn divisor_of(sort: Sort, coefs: &[(u32, i64)], constant: i64, div: i64) -> u64
+    requires kept { AreTerms 0 coefs.now }
+    requires least { pos 1 ≤ℤ div }
+    ensures { result ≡ move_divisor sort (record { numer = record { terms = coefs.now; constant = constant }; div = nat_abs div }) }
+{
+    let div = div.unsigned_abs();
+    match sort {
+        Sort::Rat => common_divisor(gcd_of_words(div, constant.unsigned_abs()), coefs),
+        Sort::Int => common_divisor(div, coefs),
+    }
+}
+
+/// The move in lowest form.
+fn lowest_form(sort: Sort, row: Row, div: i64) -> Move
+    requires least { pos 1 ≤ℤ div }
+    requires greatest { nat_abs div ≤ cap }
+    ensures { result ≡ lowest sort (record { numer = row; div = nat_abs div }) }
+{
+    let (coefs, constant) = row.into_parts();
+    let g = divisor_of(sort, coefs.as_slice(), constant, div);
+    divided_move(coefs, constant, div, g as i64)
+}
+
+/// All numbers divided by a divisor of the coefficients and of the divisor, the constant rounded down.
+fn divided_move(coefs: Coefs, constant: i64, div: i64, g: i64) -> Move
+    requires kept { AreTerms 0 coefs.items }
+    requires constant_kept { nat_abs constant ≤ cap }
+    requires g_least { pos 1 ≤ℤ g }
+    requires exact { AreTerms 0 (quotient_terms coefs.items (nat_abs g)) }
+    requires div_least { 1 ≤ nat_abs div / nat_abs g }
+    requires div_greatest { nat_abs div ≤ cap }
+    requires div_positive { pos 1 ≤ℤ div }
+    ensures { result ≡ record { numer = quotient (record { terms = coefs.items; constant = constant }) (nat_abs g); div = nat_abs div / nat_abs g } }
+{
+    let mut coefs = coefs;
+    divide_all(coefs.as_mut_slice(), g);
+    let row = Row::from_parts(coefs, floor_of_words(constant, g));
+    Move::from_parts(row, floor_of_words(div, g))
+}
+
+/// The constant of definition literal 0: of div*v - row in Rat, of div*v + div - 1 - row in Int.
+fn upper_constant(sort: Sort, constant: i64, div: i64) -> i64
+    requires constant_kept { nat_abs constant ≤ cap }
+    requires div_least { pos 1 ≤ℤ div }
+    requires div_greatest { nat_abs div ≤ cap }
+    ensures value { result ≡ upper_constant_of sort constant (nat_abs div) }
+    ensures size { nat_abs result ≤ 2 ^ 53 }
+{
+    match sort {
+        Sort::Rat => -constant,
+        Sort::Int => div - 1 - constant,
+    }
+}
+
+/// The constant of a move's definition literal 0.
+pub(crate) fn definition_constant(sort: Sort, term: &Move) -> i64
+    ensures value { result ≡ upper_constant_of sort term.now.numer.constant term.now.div }
+    ensures size { nat_abs result ≤ 2 ^ 53 }
+    ensures of_move { IsMove term.now }
+{
+    let _coefs = term.row().coefs();
+    upper_constant(sort, term.row().constant_part(), term.div())
+}
+
+/// The test of a kept move: its divisor is 1, and the number is not past the cap.
+fn is_one_and_within(g: u64, number: i64) -> bool
+    ensures { IsTrue result ↔ (g ≡ 1) × (number ≤ℤ pos cap) }
+{
+    g == 1 && number <= CAP
+}
+
+/// The move, which is in lowest form, where its definition is within the cap. Of the definition's numbers only the
+/// constant of literal 0 can be past it, and only above.
+fn with_definition(sort: Sort, term: Move) -> Result<Move, Short<Wide>>
+    requires { IsLowest sort term }
+    ensures { Capped (move_numbers sort term) term result }
+{
+    let number = definition_constant(sort, &term);
+    if number > CAP {
+        return Err(Short::Fault(Wide {
+            number: number as i128,
+        }));
+    }
+    Ok(term)
 }

@@ -9,14 +9,14 @@ ghost use Rattle.lin_term.specs.Wide.{fits};
 use crate::row::CAP;
 
 /// Whether a number is within the cap.
-pub(crate) fn is_within(z: i128) -> bool
+pub fn is_within(z: i128) -> bool
     ensures { result ≡ fits z }
 {
     z.unsigned_abs() <= CAP as u128
 }
 
 /// The greatest common divisor, by Euclid.
-pub(crate) fn gcd_of(a: u128, b: u128) -> u128
+pub fn gcd_of(a: u128, b: u128) -> u128
     ensures { result ≡ gcd a b }
 {
     let mut x = a;
@@ -59,7 +59,7 @@ pub(crate) fn common_divisor(start: u64, coefs: &[(u32, i64)]) -> u64
 }
 
 /// The quotient rounded down.
-pub(crate) fn floor_quotient(a: i128, g: i128) -> i128
+pub fn floor_quotient(a: i128, g: i128) -> i128
     requires { pos 1 ≤ℤ g }
     ensures { result ≡ floor_div a (nat_abs g) }
 {

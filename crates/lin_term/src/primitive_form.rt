@@ -1,6 +1,6 @@
 //! The primitive form of a literal, and its negation.
 
-ghost use Rattle.std.specs.Prelude.{◌≡◌, ◌≤◌, ℕ, ℤ, pos, negsuc, ◌≤ℤ◌, nat_abs, IfOk};
+ghost use Rattle.std.specs.Prelude.{◌≡◌, ◌≤◌, ◌^◌, ℕ, ℤ, pos, negsuc, ◌≤ℤ◌, ◌-ℤ◌, nat_abs, IfOk};
 ghost use Rattle.lin_term.specs.Form.{AreTerms, IsRow, cap};
 ghost use Rattle.lin_term.specs.Linear.{Form, Rat, Int, times, times_terms};
 ghost use Rattle.lin_term.specs.Literal.{quotient_terms, quotient, divisor, whole_form, minus_one, prim, neg, IsPrimitive, modulus_of, residue_form};
@@ -18,7 +18,7 @@ use smallvec::SmallVec;
 use std::alloc::Global;
 
 /// Divides each coefficient, rounded down.
-fn divide_all(coefs: &mut [(u32, i64)], g: i64)
+pub(crate) fn divide_all(coefs: &mut [(u32, i64)], g: i64)
     requires kept { AreTerms 0 coefs.old }
     requires least { pos 1 ≤ℤ g }
     ensures { coefs.new ≡ quotient_terms coefs.old (nat_abs g) }
@@ -118,7 +118,16 @@ fn whole_less_one(alloc: Global, row: Row) -> Result<Row, Short<Wide>>
     ensures { Capped (form_numbers (whole_form (minus_one row))) (whole_form (minus_one row)) result }
 {
     let (coefs, constant) = row.into_parts();
-    divided_in_int(alloc, coefs, constant - 1)
+    divided_in_int(alloc, coefs, one_less(constant))
+}
+
+/// One less than a kept number.
+fn one_less(z: i64) -> i64
+    requires { nat_abs z ≤ cap }
+    ensures value { result ≡ z -ℤ pos 1 }
+    ensures size { nat_abs result ≤ 2 ^ 53 }
+{
+    z - 1
 }
 
 /// Modulus and row of a divisibility in primitive form.

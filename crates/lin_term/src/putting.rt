@@ -1,11 +1,11 @@
-//! A term over a divisor, put in for a variable over the integers. Its constant need not be within the cap.
+//! A term over a divisor, put in for a variable. Its constant need not be within the cap.
 
-ghost use Rattle.std.specs.Prelude.{◌≡◌, ◌≤◌, ◌^◌, ◌+◌, ◌*◌, ◌+ℤ◌, ◌*ℤ◌, ◌≤ℤ◌, ◌≢◌, pos, nat_abs};
+ghost use Rattle.std.specs.Prelude.{◌≡◌, ◌<◌, ◌≤◌, ◌^◌, ◌+◌, ◌*◌, ◌+ℤ◌, ◌*ℤ◌, ◌-ℤ◌, ◌≤ℤ◌, ◌≢◌, pos, nat_abs};
 ghost use Rattle.lin_term.specs.Form.{AreTerms, cap};
 ghost use Rattle.lin_term.specs.Linear.{Int};
-ghost use Rattle.lin_term.specs.Literal.{IsPrimitive, prim, whole_form, form_of, AtLeast, Divides};
+ghost use Rattle.lin_term.specs.Literal.{IsPrimitive, prim, form_of, Divides};
 ghost use Rattle.lin_term.specs.Primable.{IsPrimable};
-ghost use Rattle.lin_term.specs.PutIn.{coef, put_raw, put_lit};
+ghost use Rattle.lin_term.specs.PutIn.{coef, put_raw, put_lit, substituted};
 ghost use Rattle.lin_term.specs.PutWith.{put_with};
 ghost use Rattle.lin_term.specs.Settle.{sum_form, settled, CappedResidues};
 ghost use Rattle.lin_term.specs.Wide.{Capped, form_numbers, lit_numbers};
@@ -15,7 +15,8 @@ use crate::coefficient::coefficient_at;
 use crate::combining::row_of;
 use crate::fault::{Short, Wide};
 use crate::lit::Lit;
-use crate::primitive_form::{at_least, divides, not_divides};
+use crate::moves::Move;
+use crate::primitive_form::{above, at_least, divides, not_divides};
 use crate::row::{Row, Sort};
 use crate::settle::{divisor_of_sum, inequality_row, residue_row};
 use std::alloc::Global;
@@ -66,24 +67,37 @@ fn put_constant(c: i64, t: i128, a: i64, r: i64) -> i128
     left + right
 }
 
-/// The inequality of the literal's row with (terms + constant)/a put in.
-fn put_inequality(
+/// The row of an inequality with (terms + constant)/a put in, in primitive form.
+fn put_row(
     alloc: Global,
+    sort: Sort,
     row: &Row,
     var: u32,
     c: i64,
     terms: &[(u32, i64)],
     constant: i128,
     a: i64,
-) -> Result<Lit, Short<Wide>>
+) -> Result<Row, Short<Wide>>
     requires c_kept { nat_abs c ≤ cap }
     requires terms_kept { AreTerms 0 terms.now }
     requires constant_size { nat_abs constant ≤ 2 ^ 53 }
     requires a_kept { nat_abs a ≤ cap }
-    ensures { Capped (lit_numbers (AtLeast (whole_form (put_with row.now var c a (record { terms = terms.now; constant = constant }))))) (AtLeast (whole_form (put_with row.now var c a (record { terms = terms.now; constant = constant })))) result }
+    ensures { let f = put_with row.now var c a (record { terms = terms.now; constant = constant }) in Capped (form_numbers (settled sort f)) (settled sort f) result }
 {
     let constant = put_constant(c, constant, a, row.constant_part());
-    at_least(sum_row(alloc, Sort::Int, c, terms, a, row.coefs(), var, constant))
+    sum_row(alloc, sort, c, terms, a, row.coefs(), var, constant)
+}
+
+/// The modulus of a divisibility times the divisor of what is put in.
+fn put_modulus(a: i64, d: u64) -> i128
+    requires a_least { pos 1 ≤ℤ a }
+    requires a_kept { nat_abs a ≤ cap }
+    requires d_least { 1 ≤ d }
+    requires d_kept { d ≤ cap }
+    ensures value { result ≡ a *ℤ pos d }
+    ensures size { nat_abs result ≤ 2 ^ 104 }
+{
+    product(a, d as i64)
 }
 
 /// Modulus and row of the divisibility of the row with (terms + constant)/a put in.
@@ -107,13 +121,14 @@ fn put_residues(
     ensures { CappedResidues (nat_abs a * d) (put_with row.now var c a (record { terms = terms.now; constant = constant })) result }
 {
     let constant = put_constant(c, constant, a, row.constant_part());
-    let modulus = product(a, d as i64);
+    let modulus = put_modulus(a, d);
     residue_row(alloc, modulus, c, terms, a, row.coefs(), var, constant)
 }
 
 /// The literal with (terms + constant)/a put in for the variable, whose coefficient is c, in primitive form.
 fn put_there(
     alloc: Global,
+    sort: Sort,
     lit: &Lit,
     var: u32,
     c: i64,
@@ -121,19 +136,19 @@ fn put_there(
     constant: i128,
     a: i64,
 ) -> Result<Lit, Short<Wide>>
-    requires primitive { IsPrimitive Int lit.now }
-    requires primable { IsPrimable Int lit.now }
+    requires primitive { IsPrimitive sort lit.now }
+    requires primable { IsPrimable sort lit.now }
     requires c_is { c ≡ coef (form_of lit.now).terms var }
     requires c_kept { nat_abs c ≤ cap }
     requires terms_kept { AreTerms 0 terms.now }
     requires constant_size { nat_abs constant ≤ 2 ^ 53 }
     requires a_least { pos 1 ≤ℤ a }
     requires a_kept { nat_abs a ≤ cap }
-    ensures { Capped (lit_numbers (prim Int (put_raw var (nat_abs a) (record { terms = terms.now; constant = constant }) lit.now))) (prim Int (put_raw var (nat_abs a) (record { terms = terms.now; constant = constant }) lit.now)) result }
+    ensures { let l = prim sort (put_raw var (nat_abs a) (record { terms = terms.now; constant = constant }) lit.now) in Capped (lit_numbers l) l result }
 {
     match lit {
-        Lit::AtLeast(row) => put_inequality(alloc, row, var, c, terms, constant, a),
-        Lit::Above(row) => put_inequality(alloc, row, var, c, terms, constant, a),
+        Lit::AtLeast(row) => at_least(put_row(alloc, sort, row, var, c, terms, constant, a)),
+        Lit::Above(row) => above(put_row(alloc, sort, row, var, c, terms, constant, a)),
         Lit::Divides(d, row) => divides(put_residues(alloc, *d, row, var, c, terms, constant, a)),
         Lit::NotDivides(d, row) => not_divides(put_residues(
             alloc, *d, row, var, c, terms, constant, a,
@@ -141,37 +156,70 @@ fn put_there(
     }
 }
 
-/// The literal with (terms + constant)/a put in for the variable, over the integers and in primitive form; a literal
-/// without the variable stays as it is. The constant is at most 2^53 in size. Wide comes exactly where that form has a
-/// number past the cap, and names the first.
+/// The literal with (terms + constant)/a put in for the variable, in primitive form; a literal without the variable
+/// stays as it is. The constant is at most 2^53 in size. Wide comes exactly where that form has a number past the cap,
+/// and names the first.
 pub fn put_in(
     alloc: Global,
+    sort: Sort,
     lit: &Lit,
     var: u32,
     terms: &[(u32, i64)],
     constant: i128,
     a: i64,
 ) -> Result<Lit, Short<Wide>>
-    requires primitive { IsPrimitive Int lit.now }
-    requires primable { IsPrimable Int lit.now }
+    requires primitive { IsPrimitive sort lit.now }
+    requires primable { IsPrimable sort lit.now }
     requires terms_kept { AreTerms 0 terms.now }
     requires constant_size { nat_abs constant ≤ 2 ^ 53 }
     requires a_least { pos 1 ≤ℤ a }
     requires a_kept { nat_abs a ≤ cap }
-    ensures { Capped (lit_numbers (put_lit Int var (nat_abs a) (record { terms = terms.now; constant = constant }) lit.now)) (put_lit Int var (nat_abs a) (record { terms = terms.now; constant = constant }) lit.now) result }
+    ensures { let l = put_lit sort var (nat_abs a) (record { terms = terms.now; constant = constant }) lit.now in Capped (lit_numbers l) l result }
 {
     let row = row_of(lit);
     let _terms = row.coefs();
     let c = coefficient_at(row, var);
     if c == 0 {
-        return copied(alloc, lit);
+        return copied(alloc, sort, lit);
     }
-    put_there(alloc, lit, var, c, terms, constant, a)
+    put_there(alloc, sort, lit, var, c, terms, constant, a)
+}
+
+/// The literal with (term - residue)/div put in for the variable, in primitive form; a literal without the variable
+/// stays as it is. The residue is below the term's divisor. Wide comes exactly where that form has a number past the
+/// cap, and names the first.
+pub fn substitute(
+    alloc: Global,
+    sort: Sort,
+    lit: &Lit,
+    var: u32,
+    term: &Move,
+    residue: u64,
+) -> Result<Lit, Short<Wide>>
+    requires primitive { IsPrimitive sort lit.now }
+    requires primable { IsPrimable sort lit.now }
+    requires residue_less { residue < term.now.div }
+    ensures { let l = substituted sort lit.now var term.now residue in Capped (lit_numbers l) l result }
+{
+    let row = term.row();
+    let div = term.div();
+    let constant = less(row.constant_part(), residue);
+    put_in(alloc, sort, lit, var, row.coefs(), constant, div)
+}
+
+/// A constant less a residue.
+fn less(constant: i64, residue: u64) -> i128
+    requires constant_kept { nat_abs constant ≤ cap }
+    requires residue_kept { residue ≤ cap }
+    ensures value { result ≡ constant -ℤ pos residue }
+    ensures size { nat_abs result ≤ 2 ^ 53 }
+{
+    constant as i128 - residue as i128
 }
 
 /// An equal literal.
-fn copied(alloc: Global, lit: &Lit) -> Result<Lit, Short<Wide>>
-    requires { IsPrimable Int lit.now }
+fn copied(alloc: Global, sort: Sort, lit: &Lit) -> Result<Lit, Short<Wide>>
+    requires { IsPrimable sort lit.now }
     ensures { Capped (lit_numbers lit.now) lit.now result }
 {
     let row = row_of(lit);

@@ -1,7 +1,7 @@
-use Rattle.std.proofs.Common.{ℕ, ℤ, Bool, ◌≡◌, ◌^◌, ◌∙◌, ◌+ℤ◌, ◌*ℤ◌, ◌||◌, nat_abs, arith, ap, ap₂, sym, subst, w64, SFits, to_z-of_z, to_z, of_z}
+use Rattle.std.proofs.Common.{ℤ, Bool, ◌≡◌, ◌^◌, ◌∙◌, ◌+ℤ◌, ◌*ℤ◌, ◌||◌, arith, ap, ap₂, sym, subst, w64, SFits, to_z-of_z, to_z, of_z}
 use mir.Syntax.{w128}
 use Rattle.lin_term.specs.Linear.{Form, Rat, plus, times}
-use Rattle.lin_term.specs.Literal.{Lit, form_of, prim}
+use Rattle.lin_term.specs.Literal.{Lit, form_of}
 use Rattle.lin_term.specs.Sum.{is_strict, inequality_with}
 use Rattle.lin_term.specs.Settle.{sum_form, settled}
 use Rattle.lin_term.specs.Wide.{Capped, form_numbers, lit_numbers}

@@ -1,4 +1,4 @@
-use Rattle.std.proofs.Common.{ℕ, ℤ, List, ◌≡◌, ◌+◌, ◌∙◌, ap, sym, subst, arith, pos, length, drop, to_z, of_z, w64}
+use Rattle.std.proofs.Common.{ℕ, ℤ, List, ◌+◌, ◌∙◌, ap, sym, subst, arith, pos, drop}
 use Rattle.lin_term.specs.Form.{AreTerms}
 use Rattle.lin_term.specs.PutIn.{coef}
 use Rattle.lin_term.proofs.Terms.{are_more, term_word}

@@ -1,5 +1,5 @@
 use Rattle.std.specs.Prelude.{[]}
-use Rattle.std.proofs.Common.{ℕ, ℤ, List, ◌≡◌, ◌∙◌, pos, nat_abs, ap, sym, subst, refl, arith, w64, SFits, to_z-of_z, to_z, of_z}
+use Rattle.std.proofs.Common.{ℕ, ℤ, ◌≡◌, ◌∙◌, pos, nat_abs, ap, subst, refl, arith, w64, SFits, to_z-of_z, to_z, of_z}
 use mir.Syntax.{w128}
 use Rattle.lin_term.specs.Form.{Form}
 use Rattle.lin_term.specs.Settle.{sum_form, CappedResidues}

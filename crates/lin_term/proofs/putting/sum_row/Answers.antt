@@ -1,8 +1,6 @@
-use Rattle.std.proofs.Common.{ℕ, ℤ, ◌≡◌, ◌≤◌, ◌^◌, ◌∙◌, pos, nat_abs, arith, ap, sym, subst, w64, SFits, to_z-of_z, to_z, of_z}
+use Rattle.std.proofs.Common.{ℕ, ◌≡◌, ◌≤◌, ◌^◌, ◌∙◌, pos, nat_abs, arith, ap, sym, subst, w64, SFits, to_z-of_z, to_z, of_z}
 use mir.Syntax.{w128}
 use Rattle.std.proofs.lemmas.Int.{ints}
-use Rattle.lin_term.specs.Form.{Form}
-use Rattle.lin_term.specs.Literal.{divisor}
 use Rattle.lin_term.specs.Settle.{sum_form}
 use Rattle.lin_term.proofs.Settling.{divisor_least}
 use Rattle.lin_term.proofs.Sizes.{divisor_small}

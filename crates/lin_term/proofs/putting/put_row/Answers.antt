@@ -1,13 +1,11 @@
-use Rattle.std.proofs.Common.{ℕ, ℤ, List, ◌≡◌, ◌∙◌, ◌+ℤ◌, ◌*ℤ◌, ap, sym, subst, arith, w64, SFits, to_z-of_z, to_z, of_z}
+use Rattle.std.proofs.Common.{ℤ, ◌≡◌, ◌∙◌, ◌+ℤ◌, ◌*ℤ◌, ap, subst, arith, w64, SFits, to_z-of_z, to_z, of_z}
 use mir.Syntax.{w128}
 use Rattle.lin_term.specs.Form.{Form}
-use Rattle.lin_term.specs.Literal.{whole_form}
-use Rattle.lin_term.specs.PutWith.{put_with}
-use Rattle.lin_term.specs.Settle.{sum_form}
+use Rattle.lin_term.specs.Settle.{sum_form, settled}
 use Rattle.lin_term.specs.Wide.{Capped, form_numbers}
 use Rattle.lin_term.proofs.Terms.{wide_of, word_of}
 use Rattle.lin_term.proofs.PuttingLemmas.{with_is}
-use Rattle.lin_term.proofs.putting.put_inequality.Goals as goal
+use Rattle.lin_term.proofs.putting.put_row.Goals as goal
 
 pub returns : goal.returns
 returns c =
@@ -19,5 +17,4 @@ returns c =
     let k : to_z w128 (of_z w128 c.put_constant-constant.result) ≡ c.args.c *ℤ c.args.constant +ℤ c.args.a *ℤ c.args.row.now.constant = wide_of c.put_constant-constant.result (omega (arith, c.put_constant-constant.ensures.size)) ∙ v ∙ ap (λ (z : ℤ). c.args.c *ℤ c.args.constant +ℤ c.args.a *ℤ z) w in
     let e = with_is c.args.row.now c.args.var c.args.c c.args.a c.args.terms.now c.coefs.result.now c.args.constant (to_z w128 (of_z w128 c.put_constant-constant.result)) c.coefs.ensures.terms k in
     let s : sum_form (to_z w64 (of_z w64 c.args.c)) c.args.terms.now (to_z w64 (of_z w64 c.args.a)) c.coefs.result.now c.args.var (to_z w128 (of_z w128 c.put_constant-constant.result)) ≡ sum_form c.args.c c.args.terms.now c.args.a c.coefs.result.now c.args.var (to_z w128 (of_z w128 c.put_constant-constant.result)) = simp to_z-of_z in
-    c.at_least.ensures (whole_form (put_with c.args.row.now c.args.var c.args.c c.args.a (record { terms = c.args.terms.now; constant = c.args.constant })))
-    (subst (λ (f : Form). Capped (form_numbers (whole_form f)) (whole_form f) c.sum_row.result) (s ∙ e) c.sum_row.ensures)
+    subst (λ (f : Form). Capped (form_numbers (settled c.args.sort f)) (settled c.args.sort f) c.sum_row.result) (s ∙ e) c.sum_row.ensures
