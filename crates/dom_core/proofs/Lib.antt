@@ -1,4 +1,6 @@
 pub mod Contrary
+pub mod Negations
+pub mod Duals
 pub mod Renaming
 pub mod Views
 mod Rows

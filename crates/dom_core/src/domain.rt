@@ -1,16 +1,21 @@
 //! What rationals and integers have in common.
 
 use crate::cube::Cube;
-use lin_term::{Short, Sort, Wide};
+use lin_term::{Defined, Memory, Move, Short, Sort, Wide};
 use sqlite_items::Items;
 use std::alloc::Global;
 
 /// The values that variables take.
 pub trait Domain {
-    ghost use Rattle.std.specs.Prelude.{ℕ, List};
+    ghost use Rattle.std.specs.Prelude.{ℕ, ◌≤◌, ◌≡◌, ◌↔◌, List, length, IfOk};
     ghost use Rattle.lin_term.specs.declared.Sort.{Sort};
     ghost use Rattle.lin_term.specs.declared.Lit.{Lit};
-    ghost use Rattle.lin_term.specs.Linear.{Point, Value, IsPoint, IsValue};
+    ghost use Rattle.lin_term.specs.Linear.{Point, Value, IsPoint, IsValue, Below};
+    ghost use Rattle.lin_term.specs.Literal.{Holds};
+    ghost use Rattle.lin_term.specs.Move.{Move as a_move, move_value};
+    ghost use Rattle.lin_term.specs.Definition.{rename_move, upper_literal, lower_literal};
+    ghost use Rattle.lin_term.specs.Rising.{IsDefinable};
+    ghost use Rattle.lin_term.specs.Fixing.{HasValue, at_names};
     ghost use Rattle.lin_term.specs.Wide.{Capped};
     ghost use Rattle.dom_core.specs.Cube.{assign, CubeHolds, SomeHolds, IsCube, IsPrimitiveCube, Solves};
     ghost use Rattle.dom_core.specs.Elimination.{eliminated, elimination_numbers};
@@ -20,12 +25,22 @@ pub trait Domain {
 
     ghost SORT: { Sort };
 
+    /// The two literals that fix a move's value at a node, in primitive form, with `names[i]` for variable i of the move.
+    /// The names ascend and are below the node, all below 2^20, and the move and its definition are within the cap. It
+    /// refuses only for memory.
+    fn definition(alloc: Global, term: &Move, node: u32, names: &[u32]) -> Result<Defined, Memory>
+        requires { IsDefinable SORT term.now names.now node }
+        ensures upper { IfOk result (λ d. d.upper ≡ upper_literal SORT (rename_move names.now term.now) node) }
+        ensures lower { IfOk result (λ d. d.lower ≡ lower_literal SORT (rename_move names.now term.now) node) };
+
     /// The cubes of which one has a solution exactly where the cube has one, without the variable: over the rationals one,
     /// by Fourier and Motzkin; over the integers the cases of Cooper 1972. It refuses exactly where a number of the
     /// elimination passes the cap, and names the first.
     fn eliminate(alloc: Global, cube: &Cube, var: u32) -> Result<Items<Cube>, Short<Wide>>
         requires { IsPrimitiveCube SORT cube.now }
         ensures { Capped (elimination_numbers SORT cube.now var) (eliminated SORT cube.now var) result };
+
+    ghost fixes: { (m : a_move) (names : List ℕ) (v : ℕ) (p : Point) → IsPoint SORT p → 1 ≤ m.div → Below (length names) m.numer → (Holds (upper_literal SORT (rename_move names m) v) p × Holds (lower_literal SORT (rename_move names m) v) p) ↔ HasValue p v (move_value SORT m (at_names names p)) };
 
     ghost covers: { (c : List Lit) (x : ℕ) (p : Point) (v : Value) → IsPoint SORT p → IsValue SORT v → IsCube SORT c → CubeHolds c (assign p x v) → SomeHolds (eliminated SORT c x) p };
 

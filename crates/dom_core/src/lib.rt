@@ -5,6 +5,7 @@ mod bounds;
 mod cube;
 mod domain;
 mod matrix;
+mod negation;
 mod problem;
 mod quant;
 

@@ -1,12 +1,17 @@
 //! A prefix over a matrix.
 
-ghost use Rattle.std.specs.Prelude.{◌≡◌, IfOk};
-ghost use Rattle.dom_core.specs.Problem.{WrittenProblem, IsProblem};
+ghost use Rattle.std.specs.Prelude.{◌≡◌, ◌≤◌, ◌↔◌, IfOk, length};
+ghost use Rattle.lin_term.specs.Wide.{Capped};
+ghost use Rattle.dom_core.specs.Game.{IsMatrix, dual};
+ghost use Rattle.dom_core.specs.View.{matrix_of};
+ghost use Rattle.dom_core.specs.Problem.{WrittenProblem, IsProblem, problem_of, IsTrueProblem};
+ghost use Rattle.dom_core.specs.Negation.{IsPrimitiveMatrix, negation_numbers};
 
 use crate::domain::Domain;
 use crate::matrix::Matrix;
-use crate::quant::Quant;
-use lin_term::Memory;
+use crate::negation::{negated, wide_negation};
+use crate::quant::{Quant, flipped};
+use lin_term::{Memory, Short, Wide};
 use sqlite_items::Items;
 use std::alloc::Global;
 use std::marker::{Model, PhantomData};
@@ -35,6 +40,24 @@ impl<D: Domain> Model for Problem<D> {
 }
 
 impl<D: Domain> Problem<D> {
+    /// The problem of at most 1,024 variables and a matrix of primitive literals over them. Wide comes exactly where
+    /// the negation of a literal has a number past the cap: the first such number, literals from left to right.
+    pub fn make(
+        alloc: Global,
+        prefix: Items<Quant>,
+        matrix: Matrix,
+    ) -> Result<Problem<D>, Short<Wide>>
+        requires few { length prefix ≤ 1024 }
+        requires over { IsMatrix (matrix_of matrix) D.SORT (length prefix) }
+        requires primitive { IsPrimitiveMatrix (matrix_of matrix) D.SORT }
+        ensures { Capped (negation_numbers (matrix_of matrix) D.SORT) (record { prefix = prefix; matrix = matrix }) result }
+    {
+        match wide_negation(alloc, D::SORT, &matrix)? {
+            Some(number) => Err(Short::Fault(Wide { number })),
+            None => Ok(Problem::from_parts(prefix, matrix)),
+        }
+    }
+
     /// The problem of parts that meet all that the type keeps.
     pub fn from_parts(prefix: Items<Quant>, matrix: Matrix) -> Problem<D>
         requires { IsProblem D.SORT (record { prefix = prefix; matrix = matrix }) }
@@ -56,7 +79,8 @@ impl<D: Domain> Problem<D> {
 
     /// The formula that Exists wants true.
     pub fn matrix(&self) -> &Matrix
-        ensures { result.now ≡ self.now.matrix }
+        ensures value { result.now ≡ self.now.matrix }
+        ensures kept { IsProblem D.SORT self.now }
     {
         &self.matrix
     }
@@ -72,5 +96,19 @@ impl<D: Domain> Problem<D> {
             matrix,
             of: PhantomData,
         })
+    }
+
+    /// The problem in which the players have changed places: each quantifier flipped, the matrix negated, with its
+    /// parts in the same order. Refuses only for memory.
+    pub fn dual(&self, alloc: Global) -> Result<Problem<D>, Memory>
+        ensures value { IfOk result (λ p. problem_of p ≡ dual D.SORT (problem_of self.now)) }
+        // It is true exactly where the problem is not.
+        ensures contrary { IfOk result (λ p. IsTrueProblem D.SORT p ↔ ¬ IsTrueProblem D.SORT self.now) }
+        // Its own dual is the problem.
+        ensures inverse { IfOk result (λ p. dual D.SORT (problem_of p) ≡ problem_of self.now) }
+    {
+        let prefix = flipped(alloc, self.prefix.as_slice())?;
+        let matrix = negated(alloc, D::SORT, &self.matrix)?;
+        Ok(Problem::from_parts(prefix, matrix))
     }
 }

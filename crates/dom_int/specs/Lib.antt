@@ -2,3 +2,4 @@ pub mod Counts
 pub mod Place
 pub mod Case
 pub mod Target
+pub mod Example

@@ -16,7 +16,7 @@ ghost use Rattle.dom_core.specs.Adding.{AddsLit, AddsCube};
 ghost use Rattle.dom_int.specs.Case.{term_case};
 
 use dom_core::{Cube, is_upper};
-use lin_term::{Coefs, Lit, Memory, Row, Short, Wide, coefficient_at, divides_in, put_in};
+use lin_term::{Coefs, Lit, Memory, Row, Short, Sort, Wide, coefficient_at, divides_in, put_in};
 use smallvec::SmallVec;
 use sqlite_items::Items;
 use std::alloc::{AllocError, Global};
@@ -56,7 +56,7 @@ fn add_put(
     requires div_kept { nat_abs div ≤ cap }
     ensures { AddsLit out.old out.new (put_lit Int var (nat_abs div) (record { terms = terms.now; constant = constant }) lit.now) result }
 {
-    match put_in(alloc, lit, var, terms, constant, div) {
+    match put_in(alloc, Sort::Int, lit, var, terms, constant, div) {
         Ok(put) => match out.push(put) {
             Ok(()) => Ok(()),
             Err(_) => Err(Short::Memory),

@@ -10,3 +10,6 @@ mod place;
 
 pub use elimination::Elimination;
 pub use int::Int;
+
+#[cfg(test)]
+mod tests;

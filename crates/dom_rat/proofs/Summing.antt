@@ -55,19 +55,12 @@ its_sums x c l e = ap (λ (b : Bool). flat_map (λ m. sums_of x m c) (cond b (l 
 pub no_sums : (x : ℕ) (c : List Lit) (l : Lit) → is_lower x l ≡ false → all_sums x c (l ∷ []) ≡ []
 no_sums x c l e = ap (λ (b : Bool). flat_map (λ m. sums_of x m c) (cond b (l ∷ []) [])) e
 
-zero_is : (z : ℤ) → z ≡ pos 0 → is_zero z ≡ true
-zero_is z e = ap is_zero e
+-- a literal stays exactly where it does not have the variable
+pub free_one : (x : ℕ) (l : Lit) → is_free x l ≡ true → filter (is_free x) (l ∷ []) ≡ l ∷ []
+free_one x l e = ap (λ (b : Bool). cond b (l ∷ []) []) e
 
-nonzero_is : (z : ℤ) → z ≢ pos 0 → is_zero z ≡ false
-nonzero_is (pos zero) n = absurd (n refl)
-nonzero_is (pos (suc k)) n = refl
-nonzero_is (negsuc k) n = refl
-
-pub free_one : (x : ℕ) (l : Lit) → coef (form_of l).terms x ≡ pos 0 → filter (is_free x) (l ∷ []) ≡ l ∷ []
-free_one x l e = ap (λ (b : Bool). cond b (l ∷ []) []) (zero_is (coef (form_of l).terms x) e)
-
-pub free_none : (x : ℕ) (l : Lit) → coef (form_of l).terms x ≢ pos 0 → filter (is_free x) (l ∷ []) ≡ []
-free_none x l n = ap (λ (b : Bool). cond b (l ∷ []) []) (nonzero_is (coef (form_of l).terms x) n)
+pub free_none : (x : ℕ) (l : Lit) → is_free x l ≡ false → filter (is_free x) (l ∷ []) ≡ []
+free_none x l e = ap (λ (b : Bool). cond b (l ∷ []) []) e
 
 positive_size : (z : ℤ) → is_positive z ≡ true → 1 ≤ nat_abs z
 positive_size (pos zero) e = absurd (cc)

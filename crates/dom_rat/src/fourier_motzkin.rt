@@ -125,6 +125,13 @@ fn add_all_sums(
     Ok(())
 }
 
+/// Whether the literal does not have the variable.
+fn is_without(lit: &Lit, var: u32) -> bool
+    ensures { result ≡ is_free var lit.now }
+{
+    coefficient_at(row_of(lit), var) == 0
+}
+
 /// A copy of the literal, added to the others, where it does not have the variable.
 fn add_if_free(alloc: Global, out: &mut Items<Lit>, var: u32, lit: &Lit) -> Result<(), Short<Wide>>
     requires { IsPrimable Rat lit.now }
@@ -133,7 +140,7 @@ fn add_if_free(alloc: Global, out: &mut Items<Lit>, var: u32, lit: &Lit) -> Resu
     let row = row_of(lit);
     let _terms = row.coefs();
     let _constant = row.constant_part();
-    if coefficient_at(row, var) != 0 {
+    if !is_without(lit, var) {
         return Ok(());
     }
     match lit.copy(alloc) {

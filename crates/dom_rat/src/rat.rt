@@ -2,7 +2,7 @@
 
 use crate::fourier_motzkin::eliminate;
 use dom_core::{Cube, Domain};
-use lin_term::{Short, Sort, Wide};
+use lin_term::{Defined, Memory, Move, Short, Sort, Wide, definition_literals};
 use sqlite_items::Items;
 use std::alloc::Global;
 
@@ -12,15 +12,22 @@ pub struct Rat;
 
 impl Domain for Rat {
     ghost use Rattle.lin_term.specs.declared.Sort.TheVariants.{Rat as rational};
+    ghost use Rattle.lin_term.proofs.Fixed.{names_fix};
     ghost use Rattle.dom_core.proofs.Eliminating.{eliminated_covers, eliminated_solves};
 
     const SORT: Sort = Sort::Rat;
 
     ghost SORT = { rational };
 
+    fn definition(alloc: Global, term: &Move, node: u32, names: &[u32]) -> Result<Defined, Memory> {
+        definition_literals(alloc, Sort::Rat, term, node, names)
+    }
+
     fn eliminate(alloc: Global, cube: &Cube, var: u32) -> Result<Items<Cube>, Short<Wide>> {
         eliminate(alloc, cube, var)
     }
+
+    ghost fixes = { λ m names v p. names_fix rational m names v p };
 
     ghost covers = { λ c x p v. eliminated_covers rational c x p v };
 
