@@ -1,0 +1,12 @@
+pub mod PartLemmas
+pub mod FactLemmas
+pub mod LineLemmas
+pub mod MadeLemmas
+pub mod CubeLemmas
+pub mod LeftLemmas
+pub mod LeastLemmas
+pub mod KnownLemmas
+pub mod StackLemmas
+pub mod CheckLemmas
+pub mod Checking
+pub mod Refuted

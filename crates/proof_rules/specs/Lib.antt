@@ -1,0 +1,5 @@
+pub mod Rules
+pub mod Checked
+pub mod Left
+pub mod Held
+pub mod Stack

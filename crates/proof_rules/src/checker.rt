@@ -1,0 +1,101 @@
+//! The check of a proof: its lines are read once, in order.
+
+ghost use Rattle.std.specs.Prelude.{◌≡◌, [], ◌∷◌, false, OnOk, IfOk, MatchOption, Option, Some, None};
+ghost use Rattle.dom_core.specs.Problem.{problem_of};
+ghost use Rattle.game_tree.specs.View.{skeleton_of};
+ghost use Rattle.lose_system.specs.Written.{system_of};
+ghost use Rattle.proof_rules.specs.Rules.{apply as apply_rule};
+ghost use Rattle.proof_rules.specs.Checked.{Judged, first_bad};
+ghost use Rattle.proof_rules.specs.Held.{context_of, AreFacts, Leaves};
+
+use crate::bad_line::BadLine;
+use crate::cubes::cube;
+use crate::fact::{Fact, Next};
+use crate::least::least;
+use crate::lines::{cases, def, falsity, part, path};
+use crate::made::{split, sum};
+use crate::state::State;
+use cube_rules::{Rule, Step, rule_of_step, within};
+use dom_core::Domain;
+use lin_term::{Memory, Short};
+use lose_system::System;
+use std::alloc::Global;
+
+/// What a line leaves, or none where it breaks its rule.
+fn apply<'a, D: Domain>(
+    alloc: Global,
+    system: &System<'a, D>,
+    bare: bool,
+    facts: &[Fact<'a>],
+    step: &Step,
+) -> Result<Option<Next<'a>>, Memory>
+    requires { AreFacts D.SORT system.now facts.now }
+    ensures { IfOk result (λ o. Leaves D.SORT system.now (context_of D.SORT system.now bare facts.now) (apply_rule D.SORT (system_of D.SORT system.now) (context_of D.SORT system.now bare facts.now) step.now) o) }
+{
+    if !within(step) {
+        return Ok(None);
+    }
+    match step {
+        Step::Path(k) => Ok(path(system, bare, *k)),
+        Step::Def(node, which) => def(alloc, system, bare, *node, *which),
+        Step::Part(f, i) => Ok(part(facts, *f, *i)),
+        Step::Cases(f, count) => Ok(cases(facts, *f, *count)),
+        Step::Sum(p, f, q, h, g) => sum(alloc, system, facts, *p, *f, *q, *h, *g),
+        Step::Split(lit) => split(alloc, system, lit),
+        Step::Cube(numbers) => cube(alloc, facts, numbers.as_slice()),
+        Step::Least(node, count) => least(alloc, system, bare, facts, *node, *count),
+        Step::False(f) => falsity(alloc, system, facts, *f),
+    }
+}
+
+/// The first bad line, none where the proof refutes.
+fn first_bad_line<D: Domain>(
+    alloc: Global,
+    system: &System<'_, D>,
+    proof: &[Step],
+) -> Result<Option<BadLine>, Memory>
+    ensures { IfOk result (λ o. o ≡ first_bad D.SORT (problem_of system.now.problem) (skeleton_of system.now.tree) proof.now) }
+{
+    let mut state = State::open(alloc);
+    let mut line: u64 = 0;
+    for step in proof {
+        if state.closed {
+            return Ok(Some(BadLine {
+                line,
+                rule: Rule::Form,
+            }));
+        }
+        let Some(next) = apply(alloc, system, state.bare, state.current(), step)? else {
+            return Ok(Some(BadLine {
+                line,
+                rule: rule_of_step(step),
+            }));
+        };
+        state.take(alloc, next)?;
+        line += 1;
+    }
+    if state.closed {
+        Ok(None)
+    } else {
+        Ok(Some(BadLine {
+            line,
+            rule: Rule::Form,
+        }))
+    }
+}
+
+/// Ok exactly where the lines refute the losing system; else the first line, counted from 0, that breaks its rule. Lines
+/// that are missing break rule Form at the line after the last, lines that are too many at the first of them.
+pub fn check<D: Domain>(
+    alloc: Global,
+    system: &System<'_, D>,
+    proof: &[Step],
+) -> Result<(), Short<BadLine>>
+    ensures { Judged D.SORT (problem_of system.now.problem) (skeleton_of system.now.tree) proof.now result }
+{
+    match first_bad_line(alloc, system, proof) {
+        Ok(None) => Ok(()),
+        Ok(Some(bad)) => Err(Short::Fault(bad)),
+        Err(_) => Err(Short::Memory),
+    }
+}
