@@ -1,0 +1,6 @@
+pub mod Kept
+pub mod Turning
+pub mod Walking
+pub mod Follows
+pub mod Proving
+mod ExampleLemmas

@@ -1,0 +1,37 @@
+-- When a section is accepted.
+use Rattle.std.specs.Prelude.{◌≡◌, ◌≤◌, Bool, List, ⊤}
+use Rattle.lin_term.specs.declared.Sort.{Sort}
+use Rattle.lin_term.specs.Definition.{IsKept}
+use Rattle.dom_core.specs.declared.Side.{Side}
+use Rattle.dom_core.specs.Game.{Problem}
+use Rattle.game_tree.specs.Skeleton.{Skeleton, Branches, end, theirs, mine, no_more, branch, nodes, node_limit}
+use Rattle.game_tree.specs.View.{skeleton_of}
+use Rattle.cube_rules.specs.declared.Step.{Step}
+use Rattle.proof_rules.specs.Rules.{Refutes}
+use Rattle.strat_text.specs.declared.Section.{Section}
+use Rattle.strat_text.specs.declared.Section.TheVariants as section
+use Rattle.strat_check.specs.Section.{owner_problem, turns_of}
+
+-- each move is in lowest form, and it and its definition are within the cap
+abbrev mutual
+  pub EachKept : Skeleton → Sort → Type 0
+  EachKept end s = ⊤
+  EachKept (theirs t) s = EachKept t s
+  EachKept (mine bs) s = EachBranchKept bs s
+
+  pub EachBranchKept : Branches → Sort → Type 0
+  EachBranchKept no_more s = ⊤
+  EachBranchKept (branch m t bs) s = IsKept s m × EachKept t s × EachBranchKept bs s
+
+-- the turns are those of the owner's problem, the tree is within the limit and its moves are kept, and the proof refutes its losing system
+pub record Proves (s : Sort) (P : Problem) (turns : List Bool) (S : Skeleton) (proof : List Step) : Type 0 where
+  pub turns_fit : turns ≡ turns_of P.prefix
+  pub few : nodes S ≤ node_limit
+  pub kept : EachKept S s
+  pub refutes : Refutes s P S proof
+
+-- the section claims this side, and proves its claim
+abbrev pub Accepts : Sort → Problem → Side → Section → Type 0
+Accepts s P owner section.Unknown = ⊥
+Accepts s P owner (section.Claimed claimed turns tree proof line) =
+    (claimed ≡ owner) × Proves s (owner_problem s owner P) turns (skeleton_of tree) proof
