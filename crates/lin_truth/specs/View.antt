@@ -1,5 +1,5 @@
 -- The tree that a term of `src/` stands for.
-use Rattle.std.specs.Prelude.{nat_abs, List, [], ◌∷◌, map}
+use Rattle.std.specs.Prelude.{ℕ, ℤ, pos, negsuc, List, [], ◌∷◌, map}
 use Rattle.lin_truth.specs.declared.term.Term.{Term as Written, fold-Term}
 use Rattle.lin_truth.specs.declared.term.Term.TheOpen.{Term-F}
 use Rattle.lin_truth.specs.Term.{Term, Terms, yes, no, amount, variable, negative, absolute, negated, divisible, minus, quotient_of, div_of, mod_of, less, at_most, greater, at_least, equal, xor_of, implies, ite, plus_of, times_of, and_of, or_of, forall_of, exists_of, no_term, term_and}
@@ -8,11 +8,16 @@ abbrev pub terms_of : List Term → Terms
 terms_of [] = no_term
 terms_of (t ∷ ts) = term_and t (terms_of ts)
 
+-- the denominator that is written: a negative one is none, and gives 0
+abbrev pub den_of : ℤ → ℕ
+den_of (pos n) = n
+den_of (negsuc n) = 0
+
 -- one level, with each part already seen
 abbrev pub term_step : Term-F Term → Term
 term_step Term-F.True = yes
 term_step Term-F.False = no
-term_step (Term-F.Number num den) = amount (record { num = num; den = nat_abs den })
+term_step (Term-F.Number num den) = amount (record { num = num; den = den_of den })
 term_step (Term-F.Var i) = variable i
 term_step (Term-F.Negative t) = negative t
 term_step (Term-F.Abs t) = absolute t

@@ -80,7 +80,8 @@ impl Goal {
 
     /// The conjunction of the assertions, over the constants.
     pub fn body(&self) -> &Term
-        ensures { result.now ≡ self.now.body }
+        ensures value { result.now ≡ self.now.body }
+        ensures kept { IsGoal self.now }
     {
         &self.body
     }

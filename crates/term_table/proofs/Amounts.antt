@@ -1,11 +1,11 @@
 -- Amounts that are added up and scaled, as numbers of each scale.
-use Rattle.std.proofs.Common.{◌≡◌, ℕ, zero, suc, ◌+◌, ◌*◌, ◌<◌, ◌≤◌, min, max, List, [], ◌∷◌, ◌++◌, length, map, get_or, drop, refl, sym, ap, subst, ◌∙◌, arith}
+use Rattle.std.proofs.Common.{◌≡◌, ℕ, zero, suc, ◌+◌, ◌*◌, ◌<◌, ◌≤◌, min, max, List, [], ◌∷◌, length, map, get_or, drop, refl, sym, ap, ◌∙◌, arith}
 use Rattle.term_table.specs.declared.amount.Amount.{Amount}
 use Rattle.term_table.specs.declared.amount.Weight.{Weight}
-use Rattle.term_table.specs.Scale.{Scale, by_nodes, by_bindings, by_freedom, by_depth, limit, Near, amount, weight, joined, Ring, ring, sum_in, sat, layer, bare}
+use Rattle.term_table.specs.Scale.{Scale, by_nodes, by_bindings, by_freedom, by_depth, limit, Near, amount, weight, joined, ring, sum_in, sat, layer, bare}
 use Rattle.term_table.specs.Meaning.{AreBelow}
-use Rattle.term_table.specs.Form.{Linear, dot, value}
-use Rattle.term_table.proofs.Rings.{IsRing, laws, near_plus, near_times, near_sat}
+use Rattle.term_table.specs.Form.{dot}
+use Rattle.term_table.proofs.Rings.{laws, near_plus, near_sat}
 
 abbrev pub together : Amount → Amount → Amount
 together a b = record { nodes = sat (a.nodes + b.nodes); bindings = sat (a.bindings + b.bindings); free = sat (a.free + b.free); depth = max a.depth b.depth }

@@ -1,13 +1,13 @@
 -- Forms that are put together.
-use Rattle.std.proofs.Common.{◌≡◌, ℕ, zero, suc, ◌+◌, ◌*◌, ◌<◌, ◌≤◌, min, max, List, [], ◌∷◌, ◌++◌, length, map, drop, set, get_or, Result, Ok, Err, refl, sym, ap, subst, ◌∙◌, arith}
+use Rattle.std.proofs.Common.{◌≡◌, ℕ, zero, suc, ◌+◌, ◌<◌, ◌≤◌, min, List, [], ◌∷◌, ◌++◌, length, map, drop, set, get_or, Result, Ok, Err, refl, sym, ap, ◌∙◌, arith}
 use Rattle.std.specs.Prelude.{IfOk}
 use Rattle.term_table.specs.declared.amount.Amount.{Amount}
 use Rattle.term_table.specs.declared.amount.Weight.{Weight}
-use Rattle.term_table.specs.Scale.{Scale, by_nodes, by_bindings, by_freedom, by_depth, limit, Near, amount, weight, joined, Ring, ring, sum_in, sat, layer, bare}
-use Rattle.term_table.specs.Form.{Linear, dot, value, IsValue, Adds}
+use Rattle.term_table.specs.Scale.{Scale, by_nodes, by_bindings, by_freedom, by_depth, limit, Near, amount, weight, ring, bare}
+use Rattle.term_table.specs.Form.{Linear, dot, IsValue}
 use Rattle.term_table.specs.declared.entry.Entry.{Entry}
 use Rattle.term_table.specs.Entries.{bare_form, form_at}
-use Rattle.term_table.proofs.Rings.{IsRing, laws, near_plus, near_times, near_sat}
+use Rattle.term_table.proofs.Rings.{laws, near_plus, near_times}
 use Rattle.term_table.proofs.Amounts.{together, as_often, either_way, through, amount-together, amount-as_often, weight-either_way, weight-through, amount-none, plus_zero, dot_next}
 
 -- ---- sums in another order

@@ -1,6 +1,5 @@
 -- Trees that are well formed, from their parts.
-use Rattle.std.proofs.Common.{◌≡◌, ℕ, zero, suc, ◌+◌, ◌<◌, ◌≤◌, Bool, true, false, ◌&&◌, List, [], ◌∷◌, ◌++◌, length, map, get_or, refl, sym, ap, subst, ◌∙◌, arith, append_assoc, length-append}
-use Rattle.std.proofs.Math.Seq.{get_or-append_seam}
+use Rattle.std.proofs.Common.{◌≡◌, ℕ, suc, ◌<◌, ◌≤◌, Bool, true, false, ◌&&◌, List, [], ◌∷◌, ◌++◌, length, get_or, refl, sym, ap, subst, ◌∙◌, arith, append_assoc}
 use Rattle.lin_term.specs.declared.row.Sort.{Sort}
 use Rattle.lin_truth.specs.declared.term.VarSort.{VarSort}
 use Rattle.lin_truth.specs.declared.term.VarSort.TheVariants as sorts
@@ -8,10 +7,10 @@ use Rattle.lin_truth.specs.Value.{Yes}
 use Rattle.lin_truth.specs.Term.{Term, Terms, yes, no, amount, variable, negative, absolute, negated, divisible, minus, quotient_of, div_of, mod_of, less, at_most, greater, at_least, equal, xor_of, implies, ite, plus_of, times_of, and_of, or_of, forall_of, exists_of, no_term, term_and}
 use Rattle.lin_truth.specs.View.{terms_of}
 use Rattle.lin_truth.specs.Constant.{is_constant, are_constant}
-use Rattle.lin_truth.specs.Size.{measure, measures, total, node_count}
+use Rattle.lin_truth.specs.Size.{measures, total}
 use Rattle.lin_truth.specs.Truth.{Either, is_boolean, is_formula}
-use Rattle.lin_truth.specs.Formed.{IsFormula, IsNumber, AreFormulas, AreNumbers, OneFree, append_all, not_boolean, IsInt, IsRat, IsNotZero}
-use Rattle.lin_truth.specs.Goal.{IsKept, AreKept}
+use Rattle.lin_truth.specs.Formed.{IsFormula, IsNumber, AreFormulas, AreNumbers, OneFree, append_all, not_boolean}
+use Rattle.lin_truth.specs.Goal.{AreKept}
 use Rattle.term_table.specs.declared.node.Unary.{Unary}
 use Rattle.term_table.specs.declared.node.Unary.TheVariants as unary
 use Rattle.term_table.specs.declared.node.Variadic.{Variadic}

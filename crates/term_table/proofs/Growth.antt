@@ -1,12 +1,12 @@
 -- What the entries stand for, as the table grows.
-use Rattle.std.proofs.Common.{◌≡◌, ℕ, zero, suc, ◌+◌, ◌-◌, ◌<◌, ◌≤◌, List, [], ◌∷◌, ◌++◌, length, map, take, drop, get_or, refl, sym, ap, subst, ◌∙◌, arith, append_assoc, length-append, length-take-le, take-append-drop, drop-cons}
+use Rattle.std.proofs.Common.{◌≡◌, ℕ, zero, suc, ◌+◌, ◌<◌, ◌≤◌, List, [], ◌∷◌, ◌++◌, length, map, take, drop, get_or, refl, sym, ap, subst, ◌∙◌, arith, append_assoc, length-append, length-take-le, take-append-drop, drop-cons}
 use Rattle.std.proofs.Math.Seq.{get_or-append_seam}
 use Rattle.std.proofs.lemmas.List.{get_or_append_left}
 use Rattle.lin_truth.specs.Term.{ite}
 use Rattle.term_table.specs.declared.node.Node.{Node}
 use Rattle.term_table.specs.declared.node.Node.TheVariants as node
-use Rattle.term_table.specs.Placed.{Placed, Frame, below, used, inner}
-use Rattle.term_table.specs.Built.{leaf_of, one_of, two_of, several_of, distinct_of, binder_of}
+use Rattle.term_table.specs.Placed.{Frame, below, used}
+use Rattle.term_table.specs.Built.{one_of, two_of, several_of, distinct_of, binder_of}
 use Rattle.term_table.specs.Meaning.{Meaning, nowhere, at, meaning, meanings_from, meanings, Extends, IsAt, AreBelow, HasParts}
 use Rattle.term_table.specs.Order.{AreOrderedFrom, IsOrdered}
 

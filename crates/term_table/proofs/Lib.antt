@@ -9,3 +9,11 @@ pub mod Pairs
 pub mod Rows
 pub mod Amounts
 pub mod FormLemmas
+pub mod EntryForms
+pub mod StepLemmas
+pub mod WriterLemmas
+pub mod StackLemmas
+pub mod Multiples
+pub mod KnownLemmas
+pub mod Knowing
+pub mod PassedOn

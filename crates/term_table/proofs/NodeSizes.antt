@@ -1,8 +1,8 @@
 -- The size of a node from those of its parts.
-use Rattle.std.proofs.Common.{◌≡◌, ℕ, zero, suc, ◌+◌, ◌-◌, ◌*◌, ◌<◌, ◌≤◌, min, max, Bool, true, false, ◌&&◌, cond, List, [], ◌∷◌, ◌++◌, length, map, refl, sym, ap, ◌∙◌, arith}
-use Rattle.std.proofs.Math.Nat.{add-mul, mul-add, mul_assoc, mul_comm, mul-zero, zero-mul, mul-one, one-mul}
+use Rattle.std.proofs.Common.{◌≡◌, ℕ, zero, suc, ◌+◌, ◌*◌, min, max, Bool, true, false, ◌&&◌, cond, List, [], ◌∷◌, length, map, refl, sym, ap, ◌∙◌, arith}
+use Rattle.std.proofs.Math.Nat.{one-mul}
 use Rattle.lin_truth.specs.declared.term.VarSort.{VarSort}
-use Rattle.lin_truth.specs.Term.{Term, Terms, yes, no, amount, variable, negative, absolute, negated, divisible, minus, quotient_of, div_of, mod_of, less, at_most, greater, at_least, equal, xor_of, implies, ite, plus_of, times_of, and_of, or_of, forall_of, exists_of, no_term, term_and}
+use Rattle.lin_truth.specs.Term.{Term, no, variable, ite}
 use Rattle.lin_truth.specs.View.{terms_of}
 use Rattle.lin_truth.specs.Constant.{is_constant, are_constant}
 use Rattle.lin_truth.specs.Size.{measure, measures, total, greatest, node_count, depth, binding_count}
@@ -17,17 +17,17 @@ use Rattle.term_table.specs.declared.node.Variadic.TheVariants as variadic
 use Rattle.term_table.specs.declared.node.Quantifier.{Quantifier}
 use Rattle.term_table.specs.declared.node.Quantifier.TheVariants as quantifier
 use Rattle.term_table.specs.Built.{leaf_of, one_of, two_of, several_of, binder_of}
-use Rattle.term_table.specs.Scale.{Scale, by_nodes, by_bindings, by_freedom, by_depth, limit, Near, Ring, counting, reaching, ring, joined, sum_in, layer, whole, bare, size, free_leaf, free_one, free_two, free_several}
+use Rattle.term_table.specs.Scale.{Scale, by_nodes, by_bindings, by_freedom, by_depth, limit, Near, counting, reaching, joined, sum_in, layer, whole, bare, size, free_leaf, free_one, free_two, free_several}
 
 -- ---- one node, for any measure
 
-measure_one : (step : ℕ → List ℕ → ℕ) (op : Unary) (t : Term) → measure step (one_of op t) ≡ step 0 (measure step t ∷ [])
+pub measure_one : (step : ℕ → List ℕ → ℕ) (op : Unary) (t : Term) → measure step (one_of op t) ≡ step 0 (measure step t ∷ [])
 measure_one step unary.Negative t = refl
 measure_one step unary.Abs t = refl
 measure_one step unary.Not t = refl
 measure_one step (unary.Divisible n) t = refl
 
-measure_two : (step : ℕ → List ℕ → ℕ) (op : Binary) (a b : Term) → measure step (two_of op a b) ≡ step 0 (measure step a ∷ measure step b ∷ [])
+pub measure_two : (step : ℕ → List ℕ → ℕ) (op : Binary) (a b : Term) → measure step (two_of op a b) ≡ step 0 (measure step a ∷ measure step b ∷ [])
 measure_two step binary.Minus a b = refl
 measure_two step binary.Quotient a b = refl
 measure_two step binary.Div a b = refl
@@ -44,7 +44,7 @@ pub measures_of : (step : ℕ → List ℕ → ℕ) (ts : List Term) → measure
 measures_of step [] = refl
 measures_of step (t ∷ ts) = ap (λ (ns : List ℕ). measure step t ∷ ns) (measures_of step ts)
 
-measure_several : (step : ℕ → List ℕ → ℕ) (op : Variadic) (ts : List Term) → measure step (several_of op ts) ≡ step 0 (map (measure step) ts)
+pub measure_several : (step : ℕ → List ℕ → ℕ) (op : Variadic) (ts : List Term) → measure step (several_of op ts) ≡ step 0 (map (measure step) ts)
 measure_several step variadic.Plus ts = ap (step 0) (measures_of step ts)
 measure_several step variadic.Times ts = ap (step 0) (measures_of step ts)
 measure_several step variadic.And ts = ap (step 0) (measures_of step ts)

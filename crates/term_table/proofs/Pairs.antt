@@ -1,11 +1,10 @@
 -- The size of "no two are equal".
-use Rattle.std.proofs.Common.{◌≡◌, ℕ, zero, suc, ◌+◌, ◌-◌, ◌*◌, ◌<◌, ◌≤◌, min, max, Bool, true, false, List, [], ◌∷◌, ◌++◌, length, map, refl, sym, ap, ◌∙◌, arith}
-use Rattle.std.proofs.Math.Nat.{add-mul, mul-add, mul_comm, mul-zero, zero-mul, mul-one, one-mul}
+use Rattle.std.proofs.Common.{◌≡◌, ℕ, zero, suc, ◌+◌, ◌*◌, ◌≤◌, min, max, List, [], ◌∷◌, ◌++◌, length, map, refl, ap, ◌∙◌, arith}
+use Rattle.std.proofs.Math.Nat.{add-mul, one-mul}
 use Rattle.lin_truth.specs.Term.{Term, yes, no, amount, variable, negative, absolute, negated, divisible, minus, quotient_of, div_of, mod_of, less, at_most, greater, at_least, equal, xor_of, implies, ite, plus_of, times_of, and_of, or_of, forall_of, exists_of}
-use Rattle.lin_truth.specs.View.{terms_of}
-use Rattle.lin_truth.specs.Size.{measure, measures, total, greatest, node_count, depth, binding_count}
+use Rattle.lin_truth.specs.Size.{total, greatest, node_count, depth, binding_count}
 use Rattle.term_table.specs.Built.{apart, pairs_apart, distinct_of}
-use Rattle.term_table.specs.Scale.{Scale, by_nodes, by_bindings, by_freedom, by_depth, limit, Near, Ring, counting, reaching, ring, joined, sum_in, size, others, distinct_layer, distinct_weight}
+use Rattle.term_table.specs.Scale.{Scale, by_nodes, by_bindings, by_freedom, by_depth, Near, counting, reaching, ring, joined, sum_in, size, others, distinct_layer, distinct_weight}
 use Rattle.term_table.proofs.NodeSizes.{measures_of, total_sum, greatest_sum}
 
 map-append : (f : Term → ℕ) (xs ys : List Term) → map f (xs ++ ys) ≡ map f xs ++ map f ys

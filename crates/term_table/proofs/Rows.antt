@@ -1,13 +1,12 @@
 -- The size of an entry does not depend on bindings, and follows from its row.
-use Rattle.std.proofs.Common.{◌≡◌, ℕ, zero, suc, ◌+◌, ◌<◌, ◌≤◌, min, List, [], ◌∷◌, ◌++◌, length, map, get_or, refl, sym, ap, ◌∙◌, arith}
-use Rattle.lin_truth.specs.Term.{Term, no, ite, variable}
+use Rattle.std.proofs.Common.{◌≡◌, ℕ, zero, suc, ◌+◌, min, List, [], ◌∷◌, ◌++◌, length, map, get_or, refl, sym, ap, ◌∙◌}
 use Rattle.term_table.specs.declared.node.Node.{Node}
 use Rattle.term_table.specs.declared.node.Node.TheVariants as node
-use Rattle.term_table.specs.Placed.{Placed, Frame, nothing, top, inner}
-use Rattle.term_table.specs.Built.{leaf_of, one_of, two_of, several_of, distinct_of, binder_of}
-use Rattle.term_table.specs.Meaning.{Meaning, nowhere, at, meaning, meanings_from, meanings}
-use Rattle.term_table.specs.Scale.{Scale, limit, Near, Ring, ring, sum_in, layer, whole, bare, size, free_leaf, free_one, free_two, free_several, distinct_layer, distinct_weight}
-use Rattle.term_table.specs.Form.{Linear, dot, value, row, HaveSizes, IsForm}
+use Rattle.term_table.specs.Placed.{Placed, Frame, nothing, inner}
+use Rattle.term_table.specs.Built.{distinct_of}
+use Rattle.term_table.specs.Meaning.{Meaning, at, meaning, meanings_from, meanings}
+use Rattle.term_table.specs.Scale.{Scale, limit, Near, ring, sum_in, layer, whole, size, free_one, free_two, free_several, distinct_layer, distinct_weight}
+use Rattle.term_table.specs.Form.{Linear, row, HaveSizes, IsForm}
 use Rattle.term_table.proofs.Rings.{near_plus, near_times}
 use Rattle.term_table.proofs.NodeSizes.{size_leaf, size_variable, size_nothing, size_one, size_two, size_choice, size_several, size_binder}
 use Rattle.term_table.proofs.Pairs.{size_distinct}
@@ -33,13 +32,13 @@ near_whole s f b xs ys all =
 
 -- ---- frames in which parameters have the same sizes
 
-abbrev Alike : Scale → List Placed → List Placed → Type 0
+abbrev pub Alike : Scale → List Placed → List Placed → Type 0
 Alike s gs hs = (p n m : ℕ) → Near s (size s (get_or gs p nothing n)) (size s (get_or hs p nothing m))
 
-abbrev Even : Scale → Meaning → Type 0
+abbrev pub Even : Scale → Meaning → Type 0
 Even s t = (f g : Frame) (n m : ℕ) → Alike s f.given g.given → Near s (size s (t f n)) (size s (t g m))
 
-abbrev AllEven : Scale → List Meaning → Type 0
+abbrev pub AllEven : Scale → List Meaning → Type 0
 AllEven s [] = Unit {0}
 AllEven s (t ∷ ts) = Even s t × AllEven s ts
 

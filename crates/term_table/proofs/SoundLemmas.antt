@@ -1,37 +1,28 @@
 -- Each way of building a term from sound parts gives a sound term.
-use Rattle.std.proofs.Common.{◌≡◌, ℕ, zero, suc, ◌+◌, ◌<◌, ◌≤◌, Bool, true, false, ◌&&◌, cond, List, [], ◌∷◌, ◌++◌, length, map, take, get_or, Option, Some, None, refl, sym, ap, subst, ◌∙◌, arith}
-use Rattle.std.specs.Prelude.{pos, nat_abs, nat_le}
-use Rattle.lin_term.specs.Form.{cap}
+use Rattle.std.proofs.Common.{◌≡◌, ℕ, zero, suc, ◌<◌, ◌≤◌, Bool, true, false, ◌&&◌, cond, List, [], ◌∷◌, ◌++◌, length, get_or, Option, Some, None, refl, sym, subst, arith}
+use Rattle.std.specs.Prelude.{nat_le}
 use Rattle.lin_term.specs.declared.row.Sort.{Sort}
 use Rattle.lin_term.specs.Linear.{Value, IsValue}
-use Rattle.lin_term.specs.Literal.{gcd}
 use Rattle.lin_truth.specs.declared.term.VarSort.{VarSort}
 use Rattle.lin_truth.specs.declared.term.VarSort.TheVariants as sorts
 use Rattle.lin_truth.specs.Value.{Yes}
-use Rattle.lin_truth.specs.Term.{Term, Terms, yes, no, amount, variable, minus, quotient_of, div_of, mod_of, ite}
-use Rattle.lin_truth.specs.View.{terms_of}
-use Rattle.lin_truth.specs.Constant.{is_constant, are_constant, constant_value}
+use Rattle.lin_truth.specs.Term.{Term, yes, no, amount, variable, ite}
+use Rattle.lin_truth.specs.Constant.{is_constant, constant_value}
 use Rattle.lin_truth.specs.Size.{node_count}
 use Rattle.lin_truth.specs.Worked.{worked}
-use Rattle.lin_truth.specs.Truth.{Either}
-use Rattle.lin_truth.specs.Formed.{IsFormula, IsNumber, OneFree, append_all, IsInt, IsRat, IsNotZero}
-use Rattle.lin_truth.specs.Goal.{IsKept, IsBody}
+use Rattle.lin_truth.specs.Formed.{IsNumber, IsNotZero}
+use Rattle.lin_truth.specs.Goal.{IsKept}
 use Rattle.lin_truth.proofs.Working.{worked_not_zero}
 use Rattle.term_table.specs.declared.node.Unary.{Unary}
 use Rattle.term_table.specs.declared.node.Binary.{Binary}
 use Rattle.term_table.specs.declared.node.Binary.TheVariants as binary
-use Rattle.term_table.specs.declared.node.Variadic.{Variadic}
-use Rattle.term_table.specs.declared.node.Variadic.TheVariants as variadic
-use Rattle.term_table.specs.declared.node.Quantifier.{Quantifier}
-use Rattle.term_table.specs.declared.node.Quantifier.TheVariants as quantifier
-use Rattle.term_table.specs.declared.worth.Worth.{Worth}
 use Rattle.term_table.specs.declared.worth.Worth.TheVariants as worth
-use Rattle.term_table.specs.Placed.{Placed, Frame, Typed, nothing, top, parameter, binding, inner, below, used}
-use Rattle.term_table.specs.Built.{one_of, two_of, several_of, distinct_of, binder_of}
+use Rattle.term_table.specs.Placed.{Frame, Typed, nothing, top, parameter, binding}
+use Rattle.term_table.specs.Built.{one_of, two_of}
 use Rattle.term_table.specs.Worth.{most_nodes, value_known, worth_of}
-use Rattle.term_table.specs.Sound.{IsOf, IsFormed, StaysFormed, FitParameters, FitBindings, Sorts, Fits, SameConstants, Sound, AllSound, unary_part, unary_whole, UnaryFits, binary_whole, IsDivisor, AreNumbers, BinaryFits, variadic_sort, AllOfSort, AllConstant, OneIsFree, VariadicFits, ArgumentsFit, trees_at}
-use Rattle.term_table.proofs.Formed.{yes_true, true_yes, one_formed, one_fixed, both_yes, and_yes, equal_formed, AllFormed, FreeFits, several_formed, AllFixed, several_fixed, constants_free, distinct_formed, append_all-is, variable_formed}
-use Rattle.term_table.proofs.Scoped.{fits_more, with_bindings, fits_behind, binding-at, parameter-at, stays_here, nothing_constant, constant_anywhere}
+use Rattle.term_table.specs.Sound.{IsFormed, Sorts, Fits, Sound, unary_part, unary_whole, UnaryFits, binary_whole, IsDivisor, BinaryFits}
+use Rattle.term_table.proofs.Formed.{true_yes, one_formed, one_fixed, both_yes, equal_formed, variable_formed}
+use Rattle.term_table.proofs.Scoped.{binding-at, parameter-at, stays_here, constant_anywhere}
 
 -- ---- leaves
 

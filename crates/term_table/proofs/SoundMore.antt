@@ -1,5 +1,5 @@
 -- Sound terms with several parts, behind binders, and of definitions; sound goals.
-use Rattle.std.proofs.Common.{◌≡◌, ℕ, zero, suc, ◌+◌, ◌<◌, ◌≤◌, Bool, true, false, ◌&&◌, List, [], ◌∷◌, ◌++◌, length, map, take, get_or, refl, sym, ap, subst, ◌∙◌, arith, length-append}
+use Rattle.std.proofs.Common.{◌≡◌, ℕ, zero, suc, ◌+◌, ◌≤◌, Bool, true, false, List, [], ◌∷◌, ◌++◌, length, map, refl, sym, ap, subst, arith, length-append}
 use Rattle.lin_term.specs.declared.row.Sort.{Sort}
 use Rattle.lin_truth.specs.declared.term.VarSort.{VarSort}
 use Rattle.lin_truth.specs.declared.term.VarSort.TheVariants as sorts
@@ -10,16 +10,16 @@ use Rattle.lin_truth.specs.Constant.{is_constant, are_constant}
 use Rattle.lin_truth.specs.Size.{node_count}
 use Rattle.lin_truth.specs.Truth.{Either}
 use Rattle.lin_truth.specs.Formed.{IsFormula, OneFree, append_all}
-use Rattle.lin_truth.specs.Goal.{IsKept, IsBody}
+use Rattle.lin_truth.specs.Goal.{IsBody}
 use Rattle.term_table.specs.declared.node.Variadic.{Variadic}
 use Rattle.term_table.specs.declared.node.Variadic.TheVariants as variadic
 use Rattle.term_table.specs.declared.node.Quantifier.{Quantifier}
 use Rattle.term_table.specs.declared.node.Quantifier.TheVariants as quantifier
-use Rattle.term_table.specs.Placed.{Placed, Frame, Typed, nothing, top, inner, below, used}
+use Rattle.term_table.specs.Placed.{Placed, Frame, Typed, top, inner, below, used}
 use Rattle.term_table.specs.Built.{several_of, distinct_of, binder_of}
 use Rattle.term_table.specs.Worth.{most_nodes}
-use Rattle.term_table.specs.Sound.{IsOf, IsFormed, StaysFormed, FitParameters, Sorts, Fits, SameConstants, Sound, AllSound, variadic_sort, AllOfSort, AllConstant, OneIsFree, VariadicFits, ArgumentsFit, trees_at}
-use Rattle.term_table.proofs.Formed.{yes_true, true_yes, both_yes, and_yes, AllFormed, FreeFits, several_formed, AllFixed, several_fixed, constants_free, distinct_formed, append_all-is}
+use Rattle.term_table.specs.Sound.{IsFormed, FitParameters, Sorts, Fits, SameConstants, Sound, AllSound, variadic_sort, AllOfSort, AllConstant, OneIsFree, VariadicFits, ArgumentsFit, trees_at}
+use Rattle.term_table.proofs.Formed.{true_yes, and_yes, AllFormed, FreeFits, several_formed, AllFixed, several_fixed, constants_free, distinct_formed, append_all-is}
 use Rattle.term_table.proofs.Scoped.{fits_more, with_bindings, fits_behind, constant_anywhere}
 use Rattle.term_table.proofs.SoundLemmas.{formed_as}
 

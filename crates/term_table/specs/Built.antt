@@ -1,8 +1,8 @@
 -- Trees from their parts.
-use Rattle.std.specs.Prelude.{nat_abs, List, [], ◌∷◌, ◌++◌, map}
+use Rattle.std.specs.Prelude.{List, [], ◌∷◌, ◌++◌, map}
 use Rattle.lin_truth.specs.declared.term.VarSort.{VarSort}
-use Rattle.lin_truth.specs.Term.{Term, Terms, yes, no, amount, variable, negative, absolute, negated, divisible, minus, quotient_of, div_of, mod_of, less, at_most, greater, at_least, equal, xor_of, implies, plus_of, times_of, and_of, or_of, forall_of, exists_of}
-use Rattle.lin_truth.specs.View.{terms_of}
+use Rattle.lin_truth.specs.Term.{Term, yes, no, amount, variable, negative, absolute, negated, divisible, minus, quotient_of, div_of, mod_of, less, at_most, greater, at_least, equal, xor_of, implies, plus_of, times_of, and_of, or_of, forall_of, exists_of}
+use Rattle.lin_truth.specs.View.{den_of, terms_of}
 use Rattle.term_table.specs.declared.node.Leaf.{Leaf}
 use Rattle.term_table.specs.declared.node.Leaf.TheVariants as leaf
 use Rattle.term_table.specs.declared.node.Unary.{Unary}
@@ -17,7 +17,7 @@ use Rattle.term_table.specs.declared.node.Quantifier.TheVariants as quantifier
 abbrev pub leaf_of : Leaf → Term
 leaf_of leaf.True = yes
 leaf_of leaf.False = no
-leaf_of (leaf.Number num den) = amount (record { num = num; den = nat_abs den })
+leaf_of (leaf.Number num den) = amount (record { num = num; den = den_of den })
 leaf_of (leaf.Constant i) = variable i
 
 abbrev pub one_of : Unary → Term → Term

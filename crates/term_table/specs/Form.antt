@@ -1,14 +1,13 @@
 -- Sizes as linear forms over the sizes of what stands for the parameters.
-use Rattle.std.specs.Prelude.{◌≡◌, ◌<◌, ℕ, ◌+◌, Bool, false, List, [], ◌∷◌, length, map, slice_index_or, Option, Some, ⊤}
-use Rattle.lin_truth.specs.declared.term.VarSort.{VarSort}
+use Rattle.std.specs.Prelude.{ℕ, List, [], ◌∷◌, length, map, slice_index_or}
 use Rattle.term_table.specs.declared.amount.Amount.{Amount}
 use Rattle.term_table.specs.declared.amount.Weight.{Weight}
 use Rattle.term_table.specs.declared.node.Node.{Node}
 use Rattle.term_table.specs.declared.node.Node.TheVariants as node
-use Rattle.term_table.specs.Placed.{Placed, Frame, nothing, top}
+use Rattle.term_table.specs.Placed.{Placed, Frame, nothing}
 pub use Rattle.term_table.specs.Linear.{Linear}
 use Rattle.term_table.specs.Meaning.{Meaning}
-use Rattle.term_table.specs.Scale.{Scale, by_nodes, by_bindings, by_freedom, by_depth, Near, amount, weight, size, Ring, ring, sum_in, layer, whole, bare, free_leaf, free_one, free_two, free_several, distinct_layer, distinct_weight}
+use Rattle.term_table.specs.Scale.{Scale, Near, amount, weight, size, ring, sum_in, layer, whole, bare, free_leaf, free_one, free_two, free_several, distinct_layer, distinct_weight}
 
 -- each parameter's size as often as it counts; one for which nothing is given is bare
 abbrev pub dot : Scale → List Weight → List ℕ → ℕ

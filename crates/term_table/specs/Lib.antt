@@ -3,8 +3,13 @@ pub mod Built
 pub mod Meaning
 pub mod Order
 pub mod Worth
+pub mod Known
 pub mod Sound
 pub mod Scale
 pub mod Linear
 pub mod Form
 pub mod Entries
+pub mod Forwarding
+pub mod Steps
+pub mod Writing
+pub mod Stack

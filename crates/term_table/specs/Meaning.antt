@@ -1,6 +1,6 @@
 -- What the entries of a table stand for.
 use Rattle.std.specs.Prelude.{◌≡◌, ◌<◌, ℕ, List, [], ◌∷◌, ◌++◌, length, map, slice_index_or, ⊤}
-use Rattle.lin_truth.specs.Term.{Term, ite}
+use Rattle.lin_truth.specs.Term.{ite}
 use Rattle.term_table.specs.declared.node.Node.{Node}
 use Rattle.term_table.specs.declared.node.Node.TheVariants as node
 use Rattle.term_table.specs.Placed.{Placed, Frame, nothing, parameter, binding, below, used}

@@ -1,5 +1,5 @@
 -- What is known of a term as a constant term.
-use Rattle.std.specs.Prelude.{ℕ, pos, Bool, true, false, nat_le, if◌then◌else◌, Option, Some, None}
+use Rattle.std.specs.Prelude.{ℕ, pos, nat_le, if◌then◌else◌, Option, Some, None}
 use Rattle.lin_term.specs.Linear.{Value}
 use Rattle.lin_truth.specs.Term.{Term}
 use Rattle.lin_truth.specs.Constant.{is_constant}

@@ -2,12 +2,13 @@
 
 use crate::form::Form;
 use crate::node::Node;
-use crate::worth::Worth;
+use crate::ratio::Ratio;
 
-/// A node, its size as a form over the parameters, and what it is as a constant term.
+/// A node, its size as a form over the parameters, and its value as a constant term where it has one and is no larger than
+/// a goal may be.
 #[derive(Drop)]
 pub struct Entry {
     pub node: Node,
     pub form: Form,
-    pub worth: Worth,
+    pub known: Option<Ratio>,
 }

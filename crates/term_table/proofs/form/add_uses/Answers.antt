@@ -1,8 +1,8 @@
-use Rattle.std.proofs.Common.{◌≡◌, ◌∙◌, ◌<◌, ◌≤◌, ◌+◌, ◌++◌, ◌∷◌, ℕ, List, [], length, length-append, drop, set, get_or, min, sym, ap, subst, arith}
+use Rattle.std.proofs.Common.{◌∙◌, ◌<◌, ◌≤◌, ◌+◌, ◌∷◌, ℕ, List, [], length, length-append, drop, sym, ap, subst, arith}
 use Rattle.std.proofs.lemmas.List.{length-set}
 use Rattle.std.specs.Global.{Vec}
 use Rattle.term_table.specs.declared.amount.Weight.{Weight}
-use Rattle.term_table.specs.Scale.{Scale, ring, Near, weight, limit}
+use Rattle.term_table.specs.Scale.{Scale, weight}
 use Rattle.term_table.specs.Form.{dot}
 use Rattle.term_table.proofs.Amounts.{dot_end, either_way}
 use Rattle.term_table.proofs.FormLemmas.{no_weight, Owes, owes-set, owes-push, nothing_owed}

@@ -1,4 +1,4 @@
-use Rattle.std.proofs.Common.{◌≡◌, ◌≤◌, ℕ, List, length}
+use Rattle.std.proofs.Common.{◌≤◌, ℕ, List, length}
 use Rattle.term_table.specs.Scale.{Scale}
 use Rattle.term_table.proofs.FormLemmas.{Owes}
 use Rattle.term_table.proofs.form.add_uses.Given as goal

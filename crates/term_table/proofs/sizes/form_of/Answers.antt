@@ -1,7 +1,7 @@
-use Rattle.std.proofs.Common.{◌≡◌, ◌∙◌, ℕ, List, [], length, map, min, sym, ap, subst}
+use Rattle.std.proofs.Common.{◌∙◌, length, map, min, sym, ap, subst}
 use Rattle.term_table.specs.declared.node.Node.{Node}
 use Rattle.term_table.specs.declared.node.Node.TheVariants as node
-use Rattle.term_table.specs.Scale.{Scale, ring, sum_in, Near, amount, weight, limit, layer, distinct_layer, distinct_weight}
+use Rattle.term_table.specs.Scale.{ring, sum_in, Near, amount, weight, limit, layer, distinct_layer, distinct_weight}
 use Rattle.std.specs.Prelude.{IfOk}
 use Rattle.term_table.specs.Form.{value, IsValue}
 use Rattle.term_table.specs.Entries.{part_value, row_in}

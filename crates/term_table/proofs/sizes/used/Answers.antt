@@ -1,4 +1,4 @@
-use Rattle.std.proofs.Common.{◌≡◌, ◌∙◌, ◌<◌, ◌+◌, ℕ, List, [], length, map, drop, get_or, min, refl, sym, ap, subst, arith}
+use Rattle.std.proofs.Common.{◌∙◌, ◌<◌, ◌+◌, ℕ, List, length, map, drop, get_or, min, sym, ap, subst, arith}
 use Rattle.term_table.specs.Scale.{Scale, ring, Near, amount, weight, limit, bare}
 use Rattle.term_table.specs.Form.{Linear, dot, value}
 use Rattle.term_table.specs.Entries.{form_at, part_value}

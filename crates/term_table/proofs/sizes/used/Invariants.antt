@@ -1,4 +1,4 @@
-use Rattle.std.proofs.Common.{◌≡◌, ℕ, List, length, map, drop}
+use Rattle.std.proofs.Common.{ℕ, List, map, drop}
 use Rattle.term_table.specs.Scale.{Scale, Near, ring}
 use Rattle.term_table.specs.Form.{dot, value}
 use Rattle.term_table.specs.Entries.{form_at, part_value}

@@ -1,7 +1,7 @@
-use Rattle.std.proofs.Common.{◌≡◌, ◌∙◌, ◌<◌, ◌+◌, ℕ, List, [], length, map, drop, get_or, min, refl, sym, ap, subst, arith}
-use Rattle.term_table.specs.Scale.{Scale, ring, sum_in, Near, amount, weight, limit}
+use Rattle.std.proofs.Common.{◌∙◌, ◌+◌, map, drop, get_or, min, sym, ap, arith}
+use Rattle.term_table.specs.Scale.{ring, sum_in, amount, weight, limit}
 use Rattle.term_table.specs.Form.{Linear, value}
-use Rattle.term_table.specs.Entries.{form_at, part_value}
+use Rattle.term_table.specs.Entries.{part_value}
 use Rattle.term_table.proofs.Amounts.{below-at, sum_next, sum_end, plus_zero}
 use Rattle.term_table.proofs.FormLemmas.{step_part, form-at, nothing_owed}
 use Rattle.term_table.proofs.sizes.weighted.Goals as goal

@@ -1,4 +1,4 @@
-use Rattle.std.proofs.Common.{◌≡◌, ℕ, List, length, map, drop}
+use Rattle.std.proofs.Common.{ℕ, List, map, drop}
 use Rattle.term_table.specs.Scale.{Scale, Near, amount, weight, ring, sum_in}
 use Rattle.term_table.specs.Form.{value}
 use Rattle.term_table.specs.Entries.{part_value}

@@ -1,8 +1,8 @@
-use Rattle.std.proofs.Common.{◌≡◌, ◌∙◌, ap, sym, subst, List, ℕ}
+use Rattle.std.proofs.Common.{◌∙◌, ap, subst, List}
 use Rattle.term_table.specs.declared.amount.Weight.{Weight}
-use Rattle.term_table.specs.Scale.{Scale, Near, amount, ring, weight}
+use Rattle.term_table.specs.Scale.{Near, amount, ring, weight}
 use Rattle.term_table.specs.Form.{Linear, dot, value}
-use Rattle.term_table.proofs.Amounts.{as_often, together}
+use Rattle.term_table.proofs.Amounts.{together}
 use Rattle.term_table.proofs.FormLemmas.{adds-form}
 use Rattle.term_table.proofs.form.Form.add.Goals as goal
 

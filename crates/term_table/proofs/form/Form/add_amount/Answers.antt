@@ -1,7 +1,7 @@
-use Rattle.std.proofs.Common.{◌≡◌, ◌∙◌, ap, sym, subst, List, ℕ}
-use Rattle.term_table.specs.Scale.{Scale, Near, amount, ring, weight}
+use Rattle.std.proofs.Common.{◌∙◌, ap, subst}
+use Rattle.term_table.specs.Scale.{Near, amount, ring, weight}
 use Rattle.term_table.specs.Form.{Linear, value}
-use Rattle.term_table.proofs.Amounts.{as_often, together}
+use Rattle.term_table.proofs.Amounts.{together}
 use Rattle.term_table.proofs.FormLemmas.{adds-amount}
 use Rattle.term_table.proofs.form.Form.add_amount.Goals as goal
 

@@ -1,4 +1,4 @@
-use Rattle.std.proofs.Common.{◌≡◌, ◌∙◌, ◌++◌, ◌∷◌, [], List, ap, sym, arith}
+use Rattle.std.proofs.Common.{◌≡◌, ◌∙◌, ◌++◌, ◌∷◌, [], List, ap, arith}
 use Rattle.term_table.specs.declared.amount.Weight.{Weight}
 use Rattle.term_table.proofs.FormLemmas.{no_weight, zeros, zeros-push, value-parameter}
 use Rattle.term_table.proofs.form.Form.parameter.Goals as goal

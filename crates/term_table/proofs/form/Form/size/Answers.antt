@@ -1,5 +1,5 @@
-use Rattle.std.proofs.Common.{◌≡◌, ◌∙◌, ◌<◌, ◌+◌, [], length, drop, get_or, min, sym, ap, arith}
-use Rattle.term_table.specs.Scale.{Scale, ring, Near, amount, weight, limit, bare}
+use Rattle.std.proofs.Common.{◌∙◌, ◌+◌, [], drop, get_or, min, sym, ap}
+use Rattle.term_table.specs.Scale.{ring, amount, weight, limit, bare}
 use Rattle.term_table.specs.Form.{dot, value}
 use Rattle.term_table.proofs.Amounts.{one_more, dot_end, amount-together, amount-as_often, amount-layer, plus_zero}
 use Rattle.term_table.proofs.FormLemmas.{no_weight, bare_next}

@@ -1,4 +1,4 @@
-use Rattle.std.proofs.Common.{◌≡◌, [], drop}
+use Rattle.std.proofs.Common.{[], drop}
 use Rattle.term_table.specs.Scale.{Scale, Near, amount, ring}
 use Rattle.term_table.specs.Form.{dot, value}
 use Rattle.term_table.proofs.form.Form.size.Given as goal
