@@ -4,3 +4,9 @@ pub mod PartLemmas
 pub mod NumberLemmas
 pub mod ReaderLemmas
 pub mod WalkLemmas
+pub mod PairLemmas
+pub mod Faults
+pub mod CallLemmas
+pub mod OpenLemmas
+pub mod WalkSteps
+pub mod LetSteps

@@ -7,3 +7,6 @@ pub mod Apply
 pub mod Terms
 pub mod View
 pub mod Reads
+pub mod Newest
+pub mod Opens
+pub mod Walked

@@ -1,5 +1,5 @@
 -- What the reader keeps, as the definitions see it.
-use Rattle.std.specs.Prelude.{◌≡◌, ◌<◌, ℕ, ℤ, nat_abs, Bool, true, List, [], ◌∷◌, length, map, Option, Some, None, Result, Ok, Err}
+use Rattle.std.specs.Prelude.{◌≡◌, ◌<◌, ℕ, ℤ, Bool, true, List, [], ◌∷◌, length, map, Option, Some, None, Result, Ok, Err}
 use Rattle.std.specs.Global.{Vec}
 use Rattle.ss_names.specs.declared.ScriptFault.{ScriptFault}
 use Rattle.ss_names.specs.declared.ScriptFault.TheVariants.{Bad, Memory}
@@ -12,6 +12,7 @@ use Rattle.term_table.specs.Worth.{worth_of}
 use Rattle.term_table.specs.Meaning.{Meaning, at, meanings, Extends, AreBelow}
 use Rattle.lin_term.specs.Linear.{Value}
 use Rattle.lin_truth.specs.Term.{Term}
+use Rattle.lin_truth.specs.View.{den_of}
 use Rattle.smt_term.specs.declared.seen.Seen.{Seen}
 use Rattle.smt_lex.specs.Lexeme.{Lexeme, lexeme}
 use Rattle.smt_lex.specs.Place.{place}
@@ -114,10 +115,10 @@ abbrev pub IsKept : Option Value → Option (ℤ × ℤ) → Type 0
 IsKept None None = Unit {0}
 IsKept None (Some v) = ⊥
 IsKept (Some v) None = ⊥
-IsKept (Some v) (Some w) = v ≡ record { num = w.0; den = nat_abs w.1 }
+IsKept (Some v) (Some w) = v ≡ record { num = w.0; den = den_of w.1 }
 
 -- the same, of a reading
 abbrev pub IsAmount : Read Value → Result (ℤ × ℤ) ScriptFault → Type 0
-IsAmount read (Ok w) = read ≡ Ok (record { num = w.0; den = nat_abs w.1 })
+IsAmount read (Ok w) = read ≡ Ok (record { num = w.0; den = den_of w.1 })
 IsAmount read (Err (Bad k line column)) = read ≡ Err (Bad k line column)
 IsAmount read (Err Memory) = Unit {0}

@@ -66,7 +66,8 @@ fn is_choice(args: &[Seen]) -> bool
     }
 }
 
-fn sorts_fit(takes: Takes, args: &[Seen]) -> bool
+/// Whether an operator takes arguments of these sorts.
+pub fn sorts_fit(takes: Takes, args: &[Seen]) -> bool
     ensures { result ≡ spec.sorts_fit takes (sorts_seen args.now) }
 {
     match takes {
