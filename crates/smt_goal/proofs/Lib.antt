@@ -1,1 +1,10 @@
 pub mod Examples
+pub mod Growing
+pub mod ParameterNames
+pub mod Obeying
+pub mod Asking
+pub mod SoundNumbers
+pub mod SoundOperators
+pub mod SoundNames
+pub mod SoundTerms
+pub mod SoundCommands

@@ -1,8 +1,15 @@
 //! Scripts of SMT-LIB as goals.
 #![tactic(auto)]
 
+mod assertion;
 mod command;
+mod declare;
+mod define;
+mod info;
 mod meaning;
+mod obey;
+mod script;
+mod session;
 mod setting;
 
 // What a script asks.
@@ -13,3 +20,9 @@ pub use command::{Command, command_named, is_in_order, may_follow, needs_logic};
 
 // Infos, options and logics.
 pub use setting::{is_keyword, is_offered, logic_named};
+
+// What a script asks.
+pub use script::{Script, read_script};
+
+#[cfg(test)]
+mod tests;
