@@ -1,0 +1,231 @@
+//! Steps on forms that were worked out before: a fault stays a fault.
+
+ghost use Rattle.std.specs.Prelude.{◌≡◌, ◌+◌, ◌*◌, ◌≤◌, ◌^◌, ℕ, ℤ, nat_abs, List, ◌++◌, ◌∷◌, []};
+ghost use Rattle.lin_term.specs.Form.{cap};
+ghost use Rattle.lin_term.specs.Linear.{Value};
+ghost use Rattle.lin_truth.specs.Value.{v_abs, v_div, v_mod, whole_div};
+ghost use Rattle.lin_form.specs.Lin.{Lin, lin_neg, lin_over};
+ghost use Rattle.lin_form.specs.Low.{as_lin, lowest};
+ghost use Rattle.lin_form.specs.Outcome.{Formed};
+ghost use Rattle.lin_form.specs.Operating.{operation as operation_of, absolute_lin, whole_lin, remainder_lin, quotient_lin, value_of};
+
+use crate::fault::FormFault;
+use crate::form::{LinForm, lowest_value, minus, negative, plus, scaled, times};
+use lin_term::product;
+use std::alloc::Global;
+
+/// What is done with two forms.
+#[derive(Clone, Copy, Debug, PartialEq, Eq, Drop)]
+pub enum Operation {
+    Plus,
+    Minus,
+    Times,
+}
+
+fn operate(alloc: Global, op: Operation, x: &LinForm, y: &LinForm) -> Result<LinForm, FormFault>
+    ensures { let lin : Lin = operation_of op x.now y.now in
+        Formed (lin ∷ []) lin result }
+{
+    match op {
+        Operation::Plus => plus(alloc, x, y),
+        Operation::Minus => minus(alloc, x, y),
+        Operation::Times => times(alloc, x, y),
+    }
+}
+
+/// A sum, a difference or a product.
+pub fn operated(
+    alloc: Global,
+    op: Operation,
+    x: Result<LinForm, FormFault>,
+    y: Result<LinForm, FormFault>,
+) -> Result<LinForm, FormFault>
+    ensures { (xs ys : List Lin) (v w : Lin) → Formed xs v x → Formed ys w y → Formed (xs ++ (ys ++ operation_of op v w ∷ [])) (operation_of op v w) result }
+{
+    let x = match x {
+        Ok(x) => x,
+        Err(fault) => return Err(fault),
+    };
+    let y = match y {
+        Ok(y) => y,
+        Err(fault) => return Err(fault),
+    };
+    operate(alloc, op, &x, &y)
+}
+
+/// A step from a form on, with one that was worked out behind it.
+pub fn stepped(
+    alloc: Global,
+    op: Operation,
+    x: &LinForm,
+    y: Result<LinForm, FormFault>,
+) -> Result<LinForm, FormFault>
+    ensures { (ys : List Lin) (w : Lin) → Formed ys w y → Formed (ys ++ operation_of op x.now w ∷ []) (operation_of op x.now w) result }
+{
+    let y = match y {
+        Ok(y) => y,
+        Err(fault) => return Err(fault),
+    };
+    operate(alloc, op, x, &y)
+}
+
+/// The quotient of a form and one without variables; where that is 0, which no goal has, the answer is want of memory.
+pub fn over(alloc: Global, x: &LinForm, y: &LinForm) -> Result<LinForm, FormFault>
+    ensures { let lin : Lin = lin_over x.now (value_of y.now) in
+        Formed (lin ∷ []) lin result }
+{
+    let n = y.constant();
+    let e = y.den() as i64;
+    if n > 0 {
+        scaled(alloc, e, n as u64, x)
+    } else if n < 0 {
+        scaled(alloc, -e, n.unsigned_abs(), x)
+    } else {
+        Err(FormFault::Memory)
+    }
+}
+
+/// The quotient of two forms without variables; by 0, which no goal has, the answer is want of memory.
+fn quotient_form(alloc: Global, x: &LinForm, y: &LinForm) -> Result<LinForm, FormFault>
+    ensures { let lin : Lin = quotient_lin x.now y.now in
+        Formed (lin ∷ []) lin result }
+{
+    let n = y.constant();
+    let top = product(x.constant(), y.den() as i64);
+    let bottom = x.den() as u128 * n.unsigned_abs() as u128;
+    if n > 0 {
+        lowest_value(alloc, top, bottom)
+    } else if n < 0 {
+        lowest_value(alloc, -top, bottom)
+    } else {
+        Err(FormFault::Memory)
+    }
+}
+
+/// The quotient of two constant terms.
+pub fn divided(
+    alloc: Global,
+    x: Result<LinForm, FormFault>,
+    y: Result<LinForm, FormFault>,
+) -> Result<LinForm, FormFault>
+    ensures { (xs ys : List Lin) (v w : Lin) → Formed xs v x → Formed ys w y → Formed (xs ++ (ys ++ quotient_lin v w ∷ [])) (quotient_lin v w) result }
+{
+    let x = match x {
+        Ok(x) => x,
+        Err(fault) => return Err(fault),
+    };
+    let y = match y {
+        Ok(y) => y,
+        Err(fault) => return Err(fault),
+    };
+    quotient_form(alloc, &x, &y)
+}
+
+/// The negative.
+pub fn negated(alloc: Global, x: Result<LinForm, FormFault>) -> Result<LinForm, FormFault>
+    ensures { (xs : List Lin) (v : Lin) → Formed xs v x → Formed (xs ++ lin_neg v ∷ []) (lin_neg v) result }
+{
+    let x = match x {
+        Ok(x) => x,
+        Err(fault) => return Err(fault),
+    };
+    negative(alloc, &x)
+}
+
+/// The absolute value of a form without variables.
+fn absolute_form(alloc: Global, x: &LinForm) -> Result<LinForm, FormFault>
+    ensures { let lin : Lin = absolute_lin x.now in
+        Formed (lin ∷ []) lin result }
+{
+    let size = x.constant().unsigned_abs() as i128;
+    lowest_value(alloc, size, x.den() as u128)
+}
+
+/// The absolute value of a constant term.
+pub fn absolute(alloc: Global, x: Result<LinForm, FormFault>) -> Result<LinForm, FormFault>
+    ensures { (xs : List Lin) (v : Lin) → Formed xs v x → Formed (xs ++ absolute_lin v ∷ []) (absolute_lin v) result }
+{
+    let x = match x {
+        Ok(x) => x,
+        Err(fault) => return Err(fault),
+    };
+    absolute_form(alloc, &x)
+}
+
+/// The whole q with a = n*q + r and 0 <= r < |n|; a where n is 0.
+fn whole_quotient(a: i64, n: i64) -> i64
+    requires a_kept { nat_abs a ≤ cap }
+    requires n_kept { nat_abs n ≤ cap }
+    ensures value { result ≡ whole_div a n }
+    ensures small { nat_abs result ≤ cap }
+{
+    if n > 0 {
+        a.div_euclid(n)
+    } else if n < 0 {
+        -a.div_euclid(-n)
+    } else {
+        a
+    }
+}
+
+/// The whole quotient of two forms without variables.
+fn whole_form(alloc: Global, x: &LinForm, y: &LinForm) -> Result<LinForm, FormFault>
+    ensures { let lin : Lin = whole_lin x.now y.now in
+        Formed (lin ∷ []) lin result }
+{
+    let quotient = whole_quotient(x.constant(), y.constant());
+    lowest_value(alloc, quotient as i128, 1)
+}
+
+/// The remainder of two whole forms without variables; a denominator other than 1, which no goal has here, is answered
+/// by want of memory.
+fn remainder_form(alloc: Global, x: &LinForm, y: &LinForm) -> Result<LinForm, FormFault>
+    ensures { let lin : Lin = remainder_lin x.now y.now in
+        Formed (lin ∷ []) lin result }
+{
+    if x.den() != 1 || y.den() != 1 {
+        return Err(FormFault::Memory);
+    }
+    let quotient = whole_quotient(x.constant(), y.constant());
+    let whole = product(y.constant(), quotient);
+    let rest = x.constant() as i128 - whole;
+    lowest_value(alloc, rest, 1)
+}
+
+/// The whole quotient of two constant terms.
+pub fn whole(
+    alloc: Global,
+    x: Result<LinForm, FormFault>,
+    y: Result<LinForm, FormFault>,
+) -> Result<LinForm, FormFault>
+    ensures { (xs ys : List Lin) (v w : Lin) → Formed xs v x → Formed ys w y → Formed (xs ++ (ys ++ whole_lin v w ∷ [])) (whole_lin v w) result }
+{
+    let x = match x {
+        Ok(x) => x,
+        Err(fault) => return Err(fault),
+    };
+    let y = match y {
+        Ok(y) => y,
+        Err(fault) => return Err(fault),
+    };
+    whole_form(alloc, &x, &y)
+}
+
+/// The remainder of two constant terms.
+pub fn remainder(
+    alloc: Global,
+    x: Result<LinForm, FormFault>,
+    y: Result<LinForm, FormFault>,
+) -> Result<LinForm, FormFault>
+    ensures { (xs ys : List Lin) (v w : Lin) → Formed xs v x → Formed ys w y → Formed (xs ++ (ys ++ remainder_lin v w ∷ [])) (remainder_lin v w) result }
+{
+    let x = match x {
+        Ok(x) => x,
+        Err(fault) => return Err(fault),
+    };
+    let y = match y {
+        Ok(y) => y,
+        Err(fault) => return Err(fault),
+    };
+    remainder_form(alloc, &x, &y)
+}

@@ -1,0 +1,13 @@
+pub mod Normal
+pub mod Norm
+pub mod Cap
+pub mod Load
+pub mod Numbered
+pub mod Cut
+pub mod View
+pub mod Literal
+pub mod Cases
+pub mod Bounds
+pub mod Claim
+pub mod Walk
+pub mod Pairing

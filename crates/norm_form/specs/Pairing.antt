@@ -1,0 +1,22 @@
+-- The parts of a choice between two numbers.
+use Rattle.std.specs.Prelude.{ℕ, List, Option, true, false}
+use Rattle.lin_term.specs.declared.Sort.{Sort}
+use Rattle.lin_truth.specs.Term.{Term, ite}
+use Rattle.lin_form.specs.declared.Bound.{Bound}
+use Rattle.lin_form.specs.Lin.{Lin}
+use Rattle.norm_form.specs.Cap.{capped_maker}
+use Rattle.norm_form.specs.Norm.{gnorm}
+use Rattle.norm_form.specs.Normal.{Normal}
+
+abbrev pub other_part : Term → Term
+other_part (ite c a b) = b
+other_part t = t
+
+abbrev pub test_part : Term → Term
+test_part (ite c a b) = c
+test_part t = t
+
+-- x where the test of t holds, else y
+abbrev pub paired_form : Term → Sort → List Bound → Lin → (ℕ → Lin → Option Normal) → ℕ → Lin → Option Normal
+paired_form t s ctx x k f y =
+    capped_maker.ite_form (gnorm capped_maker (test_part t) s true ctx f) (gnorm capped_maker (test_part t) s false ctx f) (k f x) (k f y)

@@ -1,0 +1,19 @@
+//! Normal forms of goals.
+#![tactic(auto)]
+
+mod bounds;
+mod branches;
+mod change;
+mod claim;
+mod count;
+mod form;
+mod literal;
+mod normal;
+mod scope;
+#[cfg(test)]
+mod tests;
+mod walk;
+
+pub use count::{LIMIT, Rate, formula_count};
+pub use form::normal_form;
+pub use normal::Normal;

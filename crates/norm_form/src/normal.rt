@@ -1,0 +1,129 @@
+//! Normal forms, and how they are put together.
+
+ghost use Rattle.std.specs.Prelude.{◌≡◌, ◌≢◌, IfOk, length};
+ghost use Rattle.norm_form.specs.Normal.{each_of, there_is, part, no_part};
+ghost use Rattle.norm_form.specs.Norm.{closed as closed_form, either_by, bind_one, ite_form, joined_by};
+ghost use Rattle.norm_form.specs.View.{shape_of, shapes_of};
+
+use lin_term::{Lit, Memory};
+use sqlite_items::{Boxed, Items};
+use std::alloc::Global;
+
+/// A formula of literals with quantifiers inside, negations only in literals. `And` of nothing is true, `Or` of nothing is
+/// false. A variable in a literal is the level of its binder: the number of binders outside it on the path.
+#[derive(Debug, Drop)]
+pub enum Normal {
+    Lit(Lit),
+    And(Items<Normal>),
+    Or(Items<Normal>),
+    Forall(Boxed<Normal>),
+    Exists(Boxed<Normal>),
+}
+
+/// True or false.
+#[tactic(auto, using(crate::proofs::Shapes::shape_and, crate::proofs::Shapes::shape_or))]
+pub(crate) fn closed(alloc: Global, truth: bool) -> Normal
+    ensures { shape_of result ≡ closed_form truth }
+{
+    if truth {
+        Normal::And(Items::new(alloc))
+    } else {
+        Normal::Or(Items::new(alloc))
+    }
+}
+
+/// Both, or one of the two.
+#[tactic(auto, using(crate::proofs::Shapes::shape_and, crate::proofs::Shapes::shape_or))]
+pub(crate) fn either(alloc: Global, both: bool, a: Normal, b: Normal) -> Result<Normal, Memory>
+    ensures { IfOk result (λ n. shape_of n ≡ either_by both (shape_of a) (shape_of b)) }
+{
+    let mut parts = Items::new(alloc);
+    parts.push(a)?;
+    parts.push(b)?;
+    if both {
+        Ok(Normal::And(parts))
+    } else {
+        Ok(Normal::Or(parts))
+    }
+}
+
+/// Under one quantifier.
+#[tactic(auto, using(crate::proofs::Shapes::shape_forall, crate::proofs::Shapes::shape_exists))]
+pub(crate) fn quantified(alloc: Global, every: bool, inner: Normal) -> Result<Normal, Memory>
+    ensures { IfOk result (λ n. shape_of n ≡ bind_one every (shape_of inner)) }
+{
+    let inner = Boxed::new(alloc, inner)?;
+    if every {
+        Ok(Normal::Forall(inner))
+    } else {
+        Ok(Normal::Exists(inner))
+    }
+}
+
+/// `a` where the test holds, else `b`; `untest` is the negation of `test`.
+pub(crate) fn choice(
+    alloc: Global,
+    test: Normal,
+    untest: Normal,
+    a: Normal,
+    b: Normal,
+) -> Result<Normal, Memory>
+    ensures { IfOk result (λ n. shape_of n ≡ ite_form (shape_of test) (shape_of untest) (shape_of a) (shape_of b)) }
+{
+    let first = either(alloc, false, untest, a)?;
+    let second = either(alloc, false, test, b)?;
+    either(alloc, true, first, second)
+}
+
+/// There is a value between the bounds.
+#[tactic(auto, using(crate::proofs::Shapes::shape_and, crate::proofs::Shapes::shape_exists))]
+pub(crate) fn between(
+    alloc: Global,
+    low: Normal,
+    high: Normal,
+    inner: Normal,
+) -> Result<Normal, Memory>
+    ensures { IfOk result (λ n. shape_of n ≡ there_is (each_of (part (shape_of low) (part (shape_of high) (part (shape_of inner) no_part))))) }
+{
+    let mut parts = Items::new(alloc);
+    parts.push(low)?;
+    parts.push(high)?;
+    parts.push(inner)?;
+    let inner = Boxed::new(alloc, Normal::And(parts))?;
+    Ok(Normal::Exists(inner))
+}
+
+/// All parts, or one of them: one part stands for the whole.
+pub(crate) fn joined(all: bool, parts: Items<Normal>) -> Normal
+    ensures { shape_of result ≡ joined_by all (shapes_of parts) }
+{
+    if parts.len() == 1 {
+        only(all, parts)
+    } else {
+        many(all, parts)
+    }
+}
+
+/// The only part.
+fn only(all: bool, parts: Items<Normal>) -> Normal
+    requires { length parts ≡ 1 }
+    ensures { shape_of result ≡ joined_by all (shapes_of parts) }
+{
+    let mut parts = parts;
+    match parts.pop() {
+        Some(part) => part,
+        None => many(all, parts),
+    }
+}
+
+/// No part, or more than one.
+fn many(all: bool, parts: Items<Normal>) -> Normal
+    requires { length parts ≢ 1 }
+    ensures { shape_of result ≡ joined_by all (shapes_of parts) }
+{
+    if all {
+        Normal::And(parts)
+    } else {
+        Normal::Or(parts)
+    }
+}

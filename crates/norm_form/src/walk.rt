@@ -1,0 +1,476 @@
+//! The walk over a goal's body: each formula becomes its normal form, and each number the cases of its linear form. A sum is
+//! a loop over its terms, and native calls go as deep as the body does.
+
+ghost use Rattle.std.specs.Prelude.{◌≡◌, ◌∷◌, [], ℕ, true, false, Option};
+ghost use Rattle.lin_form.specs.Lin.{Lin};
+ghost use Rattle.lin_truth.specs.View.{tree_of, trees_of};
+ghost use Rattle.norm_form.specs.Cap.{capped_maker};
+ghost use Rattle.norm_form.specs.Cases.{AreCases, AreBack, AreTurnedBack, stepped};
+ghost use Rattle.norm_form.specs.Norm.{gnorm, gnorms, glin, glin_sum, glin_product, gbind};
+ghost use Rattle.lin_form.specs.Low.{as_lin};
+ghost use Rattle.lin_truth.specs.Value.{zero_value, one_value};
+ghost use Rattle.norm_form.specs.Normal.{Normal as NormalTree};
+ghost use Rattle.norm_form.specs.View.{IsBuilt};
+ghost use Rattle.norm_form.specs.Pairing.{other_part, test_part, paired_form};
+
+use crate::branches::{Case, LEVELS, leaf_cases, one, righted};
+use crate::change::{Change, Division, Step, divided_cases, joined_back, pair_cases, turned};
+use crate::claim::{Claim, atom, both, choice_of, same_of};
+use crate::normal::{Normal, closed, joined};
+use crate::scope::{is_formula_in, truth_literal, with_bound, wrapped};
+use lin_form::{Bound, FormFault, LinForm, constant_form, is_constant, level_of, variable};
+use lin_term::{Row, Sort};
+use lin_truth::{Term, VarSort};
+use sqlite_items::Items;
+use std::alloc::Global;
+
+/// The linear forms of a number with its cases, at a level: below that many binders.
+#[cycle(walk)]
+fn number(
+    alloc: Global,
+    sort: Sort,
+    ctx: &[Bound],
+    term: &Term,
+    level: u32,
+) -> Result<Items<Case>, FormFault>
+    ensures { AreCases (λ k. glin capped_maker (tree_of term.now) sort ctx.now level k) result }
+{
+    if is_constant(term) {
+        return leaf_cases(alloc, level, constant_form(alloc, term));
+    }
+    match term {
+        Term::Var(i) => leaf_cases(alloc, level, variable(alloc, level_of(ctx, *i))),
+        Term::Negative(t) => {
+            let x = number(alloc, sort, ctx, t.get(), level);
+            turned(alloc, sort, &Change::Negative, x)
+        }
+        Term::Abs(t) => {
+            let x = number(alloc, sort, ctx, t.get(), level);
+            turned(alloc, sort, &Change::Absolute, x)
+        }
+        Term::Minus(a, b) => {
+            let x = number(alloc, sort, ctx, a.get(), level);
+            second(alloc, sort, ctx, Step::Minus, x, b.get())
+        }
+        Term::Quotient(a, b) => {
+            let x = number(alloc, sort, ctx, a.get(), level);
+            let by = constant_form(alloc, b.get());
+            divided_cases(alloc, sort, Division::Over, x, by)
+        }
+        Term::Div(a, b) => {
+            let x = number(alloc, sort, ctx, a.get(), level);
+            let by = constant_form(alloc, b.get());
+            divided_cases(alloc, sort, Division::Whole, x, by)
+        }
+        Term::Mod(a, b) => {
+            let x = number(alloc, sort, ctx, a.get(), level);
+            let by = constant_form(alloc, b.get());
+            divided_cases(alloc, sort, Division::Rest, x, by)
+        }
+        Term::Ite(_, a, _) => {
+            let x = number(alloc, sort, ctx, a.get(), level);
+            chosen(alloc, sort, ctx, term, x)
+        }
+        Term::Plus(ts) => sum(alloc, sort, ctx, ts.as_slice(), level),
+        Term::Times(ts) => product(alloc, sort, ctx, ts.as_slice(), level),
+        _ => Err(FormFault::Memory),
+    }
+}
+
+/// A step on a number and a second one.
+#[cycle(walk)]
+fn second(
+    alloc: Global,
+    sort: Sort,
+    ctx: &[Bound],
+    step: Step,
+    cases: Result<Items<Case>, FormFault>,
+    b: &Term,
+) -> Result<Items<Case>, FormFault>
+    ensures { (g : (ℕ → Lin → Option NormalTree) → Option NormalTree) → AreCases g cases → AreCases (λ k. g (λ e x. glin capped_maker (tree_of b.now) sort ctx.now e (λ f y. capped_maker.formed (stepped step x y ∷ []) (k f (stepped step x y))))) result }
+{
+    match cases {
+        Ok(cases) => righted(alloc, second_each(alloc, sort, ctx, step, cases, b)),
+        Err(fault) => Err(fault),
+    }
+}
+
+/// A step on each form of a number and a second one, in reversed order.
+#[cycle(walk)]
+fn second_each(
+    alloc: Global,
+    sort: Sort,
+    ctx: &[Bound],
+    step: Step,
+    cases: Items<Case>,
+    b: &Term,
+) -> Result<Items<Case>, FormFault>
+    ensures { AreTurnedBack (λ k e x. glin capped_maker (tree_of b.now) sort ctx.now e (λ f y. capped_maker.formed (stepped step x y ∷ []) (k f (stepped step x y)))) cases result }
+{
+    let mut todo = cases;
+    let mut out = Items::new(alloc);
+    while let Some(case) = todo.pop() {
+        match case {
+            Case::Form(level, x) => {
+                let ys = number(alloc, sort, ctx, b, level);
+                let more = match joined_back(alloc, sort, step, x, ys) {
+                    Ok(more) => more,
+                    Err(fault) => return Err(fault),
+                };
+                out.append(more)?;
+            }
+            Case::Choice(test, untest) => out.push(Case::Choice(test, untest))?,
+            Case::Quotient(low, high) => out.push(Case::Quotient(low, high))?,
+        }
+    }
+    Ok(out)
+}
+
+/// The sum from left to right.
+#[cycle(walk)]
+fn sum(
+    alloc: Global,
+    sort: Sort,
+    ctx: &[Bound],
+    terms: &[Term],
+    level: u32,
+) -> Result<Items<Case>, FormFault>
+    ensures { AreCases (λ k. glin_sum capped_maker (trees_of terms.now) sort ctx.now level (as_lin zero_value) k) result }
+{
+    let mut all = one(alloc, level, LinForm::whole(Row::constant(alloc, 0)))?;
+    for term in terms {
+        let back = second_each(alloc, sort, ctx, Step::Plus, all, term);
+        all = match righted(alloc, back) {
+            Ok(all) => all,
+            Err(fault) => return Err(fault),
+        };
+    }
+    Ok(all)
+}
+
+/// The product from left to right.
+#[cycle(walk)]
+fn product(
+    alloc: Global,
+    sort: Sort,
+    ctx: &[Bound],
+    terms: &[Term],
+    level: u32,
+) -> Result<Items<Case>, FormFault>
+    ensures { AreCases (λ k. glin_product capped_maker (trees_of terms.now) sort ctx.now level (as_lin one_value) k) result }
+{
+    let mut all = one(alloc, level, LinForm::whole(Row::constant(alloc, 1)))?;
+    for term in terms {
+        let back = second_each(alloc, sort, ctx, Step::Times, all, term);
+        all = match righted(alloc, back) {
+            Ok(all) => all,
+            Err(fault) => return Err(fault),
+        };
+    }
+    Ok(all)
+}
+
+/// The second number of a choice.
+#[cycle(walk)]
+fn other(
+    alloc: Global,
+    sort: Sort,
+    ctx: &[Bound],
+    term: &Term,
+    level: u32,
+) -> Result<Items<Case>, FormFault>
+    ensures { AreCases (λ k. glin capped_maker (other_part (tree_of term.now)) sort ctx.now level k) result }
+{
+    match term {
+        Term::Ite(_, _, b) => number(alloc, sort, ctx, b.get(), level),
+        _ => Err(FormFault::Memory),
+    }
+}
+
+/// The test of a choice.
+#[cycle(walk)]
+fn test(
+    alloc: Global,
+    sort: Sort,
+    ctx: &[Bound],
+    term: &Term,
+    truth: bool,
+    level: u32,
+) -> Result<Normal, FormFault>
+    ensures { IsBuilt (gnorm capped_maker (test_part (tree_of term.now)) sort truth ctx.now level) result }
+{
+    match term {
+        Term::Ite(c, _, _) => formula(alloc, sort, ctx, c.get(), truth, level),
+        _ => Err(FormFault::Memory),
+    }
+}
+
+/// The first number of a choice or the second, by its test.
+#[cycle(walk)]
+fn chosen(
+    alloc: Global,
+    sort: Sort,
+    ctx: &[Bound],
+    term: &Term,
+    cases: Result<Items<Case>, FormFault>,
+) -> Result<Items<Case>, FormFault>
+    ensures { (g : (ℕ → Lin → Option NormalTree) → Option NormalTree) → AreCases g cases → AreCases (λ k. g (λ e x. glin capped_maker (other_part (tree_of term.now)) sort ctx.now e (λ f y. paired_form (tree_of term.now) sort ctx.now x k f y))) result }
+{
+    match cases {
+        Ok(cases) => righted(alloc, chosen_each(alloc, sort, ctx, term, cases)),
+        Err(fault) => Err(fault),
+    }
+}
+
+/// Each form of the first number of a choice, or the second number, by its test, in reversed order.
+#[cycle(walk)]
+fn chosen_each(
+    alloc: Global,
+    sort: Sort,
+    ctx: &[Bound],
+    term: &Term,
+    cases: Items<Case>,
+) -> Result<Items<Case>, FormFault>
+    ensures { AreTurnedBack (λ k e x. glin capped_maker (other_part (tree_of term.now)) sort ctx.now e (λ f y. paired_form (tree_of term.now) sort ctx.now x k f y)) cases result }
+{
+    let mut todo = cases;
+    let mut out = Items::new(alloc);
+    while let Some(case) = todo.pop() {
+        match case {
+            Case::Form(level, x) => {
+                let ys = other(alloc, sort, ctx, term, level);
+                let more = match paired(alloc, sort, ctx, term, &x, ys) {
+                    Ok(more) => more,
+                    Err(fault) => return Err(fault),
+                };
+                out.append(more)?;
+            }
+            Case::Choice(test, untest) => out.push(Case::Choice(test, untest))?,
+            Case::Quotient(low, high) => out.push(Case::Quotient(low, high))?,
+        }
+    }
+    Ok(out)
+}
+
+/// A form, or the cases of a second number, by the test of a choice, in reversed order.
+#[cycle(walk)]
+fn paired(
+    alloc: Global,
+    sort: Sort,
+    ctx: &[Bound],
+    term: &Term,
+    x: &LinForm,
+    cases: Result<Items<Case>, FormFault>,
+) -> Result<Items<Case>, FormFault>
+    ensures { (g : (ℕ → Lin → Option NormalTree) → Option NormalTree) → AreCases g cases → AreBack (λ k. g (paired_form (tree_of term.now) sort ctx.now x.now k)) result }
+{
+    match cases {
+        Ok(cases) => paired_each(alloc, sort, ctx, term, x, cases),
+        Err(fault) => Err(fault),
+    }
+}
+
+/// A form, or each form of a second number, by the test of a choice, in reversed order.
+#[cycle(walk)]
+fn paired_each(
+    alloc: Global,
+    sort: Sort,
+    ctx: &[Bound],
+    term: &Term,
+    x: &LinForm,
+    cases: Items<Case>,
+) -> Result<Items<Case>, FormFault>
+    ensures { AreTurnedBack (paired_form (tree_of term.now) sort ctx.now x.now) cases result }
+{
+    let mut todo = cases;
+    let mut out = Items::new(alloc);
+    while let Some(case) = todo.pop() {
+        match case {
+            Case::Form(level, y) => {
+                let more = match pair_of(alloc, sort, ctx, term, x, level, y) {
+                    Ok(more) => more,
+                    Err(fault) => return Err(fault),
+                };
+                out.append(more)?;
+            }
+            Case::Choice(test, untest) => out.push(Case::Choice(test, untest))?,
+            Case::Quotient(low, high) => out.push(Case::Quotient(low, high))?,
+        }
+    }
+    Ok(out)
+}
+
+/// One of two forms, by the test of a choice, in reversed order.
+#[cycle(walk)]
+fn pair_of(
+    alloc: Global,
+    sort: Sort,
+    ctx: &[Bound],
+    term: &Term,
+    x: &LinForm,
+    level: u32,
+    y: LinForm,
+) -> Result<Items<Case>, FormFault>
+    ensures { AreBack (λ k. paired_form (tree_of term.now) sort ctx.now x.now k level y) result }
+{
+    let first = x.copy(alloc)?;
+    let yes = test(alloc, sort, ctx, term, true, level);
+    let no = test(alloc, sort, ctx, term, false, level);
+    pair_cases(alloc, level, first, y, yes, no)
+}
+
+/// The normal form of a formula, or of its negation, below a number of binders.
+#[cycle(walk)]
+fn formula(
+    alloc: Global,
+    sort: Sort,
+    ctx: &[Bound],
+    term: &Term,
+    truth: bool,
+    level: u32,
+) -> Result<Normal, FormFault>
+    ensures { IsBuilt (gnorm capped_maker (tree_of term.now) sort truth ctx.now level) result }
+{
+    match term {
+        Term::True => Ok(closed(alloc, truth)),
+        Term::Var(i) => truth_literal(alloc, sort, truth, level_of(ctx, *i)),
+        Term::Not(t) => formula(alloc, sort, ctx, t.get(), !truth, level),
+        Term::Divisible(n, t) => {
+            let x = number(alloc, sort, ctx, t.get(), level);
+            atom(alloc, sort, Claim::Divides(*n), truth, x)
+        }
+        Term::Less(a, b) => {
+            let x = number(alloc, sort, ctx, a.get(), level);
+            let z = second(alloc, sort, ctx, Step::From, x, b.get());
+            atom(alloc, sort, Claim::Above, truth, z)
+        }
+        Term::AtMost(a, b) => {
+            let x = number(alloc, sort, ctx, a.get(), level);
+            let z = second(alloc, sort, ctx, Step::From, x, b.get());
+            atom(alloc, sort, Claim::AtLeast, truth, z)
+        }
+        Term::Greater(a, b) => {
+            let x = number(alloc, sort, ctx, a.get(), level);
+            let z = second(alloc, sort, ctx, Step::Minus, x, b.get());
+            atom(alloc, sort, Claim::Above, truth, z)
+        }
+        Term::AtLeast(a, b) => {
+            let x = number(alloc, sort, ctx, a.get(), level);
+            let z = second(alloc, sort, ctx, Step::Minus, x, b.get());
+            atom(alloc, sort, Claim::AtLeast, truth, z)
+        }
+        Term::Equal(a, b) => {
+            if is_formula_in(a.get(), ctx) {
+                let x = formula(alloc, sort, ctx, a.get(), true, level);
+                let n = formula(alloc, sort, ctx, a.get(), false, level);
+                let y = formula(alloc, sort, ctx, b.get(), true, level);
+                let m = formula(alloc, sort, ctx, b.get(), false, level);
+                return same_of(alloc, truth, x, n, y, m);
+            }
+            let x = number(alloc, sort, ctx, a.get(), level);
+            let z = second(alloc, sort, ctx, Step::Minus, x, b.get());
+            atom(alloc, sort, Claim::Zero, truth, z)
+        }
+        Term::Xor(a, b) => {
+            let x = formula(alloc, sort, ctx, a.get(), true, level);
+            let n = formula(alloc, sort, ctx, a.get(), false, level);
+            let y = formula(alloc, sort, ctx, b.get(), true, level);
+            let m = formula(alloc, sort, ctx, b.get(), false, level);
+            same_of(alloc, !truth, x, n, y, m)
+        }
+        Term::Implies(a, b) => {
+            let x = formula(alloc, sort, ctx, a.get(), !truth, level);
+            let y = formula(alloc, sort, ctx, b.get(), truth, level);
+            both(alloc, !truth, x, y)
+        }
+        Term::Ite(c, a, b) => {
+            let yes = formula(alloc, sort, ctx, c.get(), true, level);
+            let no = formula(alloc, sort, ctx, c.get(), false, level);
+            let x = formula(alloc, sort, ctx, a.get(), truth, level);
+            let y = formula(alloc, sort, ctx, b.get(), truth, level);
+            choice_of(alloc, yes, no, x, y)
+        }
+        Term::And(ts) => parts(alloc, sort, ctx, ts.as_slice(), truth, truth, level),
+        Term::Or(ts) => parts(alloc, sort, ctx, ts.as_slice(), !truth, truth, level),
+        Term::Forall(vs, t) => {
+            bound(
+                alloc,
+                sort,
+                ctx,
+                truth,
+                vs.as_slice(),
+                t.get(),
+                truth,
+                level,
+            )
+        }
+        Term::Exists(vs, t) => {
+            bound(
+                alloc,
+                sort,
+                ctx,
+                !truth,
+                vs.as_slice(),
+                t.get(),
+                truth,
+                level,
+            )
+        }
+        Term::False => Ok(closed(alloc, !truth)),
+        Term::Number { .. } => Ok(closed(alloc, !truth)),
+        Term::Negative(_) => Ok(closed(alloc, !truth)),
+        Term::Abs(_) => Ok(closed(alloc, !truth)),
+        Term::Minus(_, _) => Ok(closed(alloc, !truth)),
+        Term::Quotient(_, _) => Ok(closed(alloc, !truth)),
+        Term::Div(_, _) => Ok(closed(alloc, !truth)),
+        Term::Mod(_, _) => Ok(closed(alloc, !truth)),
+        Term::Plus(_) => Ok(closed(alloc, !truth)),
+        Term::Times(_) => Ok(closed(alloc, !truth)),
+    }
+}
+
+/// All formulas, or one of them.
+#[cycle(walk)]
+fn parts(
+    alloc: Global,
+    sort: Sort,
+    ctx: &[Bound],
+    terms: &[Term],
+    all: bool,
+    truth: bool,
+    level: u32,
+) -> Result<Normal, FormFault>
+    ensures { IsBuilt (capped_maker.joined_by all (gnorms capped_maker (trees_of terms.now) sort truth ctx.now level)) result }
+{
+    let mut made = Items::new(alloc);
+    for term in terms {
+        match formula(alloc, sort, ctx, term, truth, level) {
+            Ok(part) => made.push(part)?,
+            Err(fault) => return Err(fault),
+        }
+    }
+    Ok(joined(all, made))
+}
+
+/// A formula under bound variables. Past 2^20 levels, which no goal has, the answer is want of memory.
+#[cycle(walk)]
+pub(crate) fn bound(
+    alloc: Global,
+    sort: Sort,
+    ctx: &[Bound],
+    every: bool,
+    vars: &[VarSort],
+    body: &Term,
+    truth: bool,
+    level: u32,
+) -> Result<Normal, FormFault>
+    ensures { IsBuilt (gbind capped_maker every vars.now (λ c e. gnorm capped_maker (tree_of body.now) sort truth c e) ctx.now level) result }
+{
+    if level >= LEVELS || vars.len() >= LEVELS as usize {
+        return Err(FormFault::Memory);
+    }
+    let all = with_bound(alloc, ctx, vars, level)?;
+    let deep = level + vars.len() as u32;
+    let inner = formula(alloc, sort, all.as_slice(), body, truth, deep);
+    wrapped(alloc, every, vars, inner)
+}

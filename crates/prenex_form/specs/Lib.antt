@@ -1,0 +1,5 @@
+pub mod Prenex
+pub mod Place
+pub mod Whole
+pub mod Outcome
+pub mod Pass
