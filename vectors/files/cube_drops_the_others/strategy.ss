@@ -1,0 +1,14 @@
+simsat-strategy 1
+goals 1
+goal 0 sat
+turns to
+t
+o 1
+m 1 1 1 0
+proof 5
+path 0
+def 1 0
+sum 1 0 1 1 1
+cube 2
+false 2
+end

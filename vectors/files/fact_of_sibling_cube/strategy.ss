@@ -1,0 +1,15 @@
+simsat-strategy 1
+goals 1
+goal 0 sat
+turns to
+t
+o 1
+m 2 1 1 0
+proof 6
+path 0
+part 0 0
+cases 1 2
+cube 2
+false 0
+false 3
+end

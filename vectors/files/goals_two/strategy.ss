@@ -1,0 +1,3 @@
+simsat-strategy 1
+goals 0
+end

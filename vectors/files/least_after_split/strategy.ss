@@ -1,0 +1,17 @@
+simsat-strategy 1
+goals 1
+goal 0 unsat
+turns t
+t
+proof 10
+path 0
+part 0 0
+part 0 1
+cube 1 2
+split >= 0 1 0
+least 0 2
+false 1
+false 0
+least 0 1
+false 1
+end

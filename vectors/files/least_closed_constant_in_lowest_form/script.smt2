@@ -1,0 +1,6 @@
+(set-logic LIA)
+(declare-const x0 Int)
+(declare-const x1 Int)
+(declare-const x2 Int)
+(assert (and (<= 0 (+ x0 (- 1))) (<= 0 (+ (* (- 1) x0) x1)) (<= 0 (+ (* (- 1) x0) (* (- 4503599627370495) x1) (* (- 1) x2))) (<= 0 (+ x2 (- 1)))))
+(check-sat)

@@ -1,0 +1,5 @@
+(set-logic LIA)
+(declare-const x0 Int)
+(declare-const x1 Int)
+(assert (and (<= 0 (+ (* (- 1) x0) (* 3 x1))) (<= 0 (+ x0 (* (- 3) x1))) ((_ divisible 2) x1) ((_ divisible 6) (+ x0 3))))
+(check-sat)

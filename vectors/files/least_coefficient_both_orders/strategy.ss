@@ -1,0 +1,17 @@
+simsat-strategy 1
+goals 1
+goal 0 unsat
+turns tt
+t
+t
+proof 9
+path 0
+part 0 0
+part 0 1
+part 0 2
+cube 1 2 3
+least 0 3
+false 2
+false 0
+false 0
+end

@@ -1,0 +1,14 @@
+simsat-strategy 1
+goals 1
+goal 0 unsat
+turns t
+t
+proof 7
+path 0
+part 0 0
+part 0 1
+cube 1 2
+least 0 2
+false 2
+false 0
+end

@@ -1,0 +1,14 @@
+simsat-strategy 1
+goals 1
+goal 0 unsat
+turns tt
+t
+t
+proof 6
+path 0
+part 0 0
+part 0 1
+cube 1 2
+least 0 1
+false 1
+end

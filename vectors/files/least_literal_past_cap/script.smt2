@@ -1,0 +1,6 @@
+(set-logic LIA)
+(declare-const x0 Int)
+(declare-const x1 Int)
+(declare-const x2 Int)
+(assert (and (<= 0 (+ (* (- 4503599627370495) x0) (* 2 x1) x2)) (<= 0 (+ (* 3 x0) (* (- 4503599627370493) x1) (* 5 x2) (- 1)))))
+(check-sat)

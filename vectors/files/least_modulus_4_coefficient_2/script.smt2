@@ -1,0 +1,5 @@
+(set-logic LIA)
+(declare-const x0 Int)
+(declare-const x1 Int)
+(assert (and ((_ divisible 4) (* 2 x1)) ((_ divisible 2) (+ x1 1)) (<= 0 x0)))
+(check-sat)

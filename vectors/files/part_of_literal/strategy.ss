@@ -1,0 +1,12 @@
+simsat-strategy 1
+goals 1
+goal 0 sat
+turns to
+t
+o 1
+m 1 1 1 0
+proof 3
+path 0
+part 0 0
+false 1
+end

@@ -1,0 +1,16 @@
+simsat-strategy 1
+goals 1
+goal 0 sat
+turns to
+t
+o 1
+m 2 1 1 0
+proof 7
+path 0
+part 0 0
+part 0 1
+def 1 0
+def 1 1
+sum 1 1 1 3 1
+false 5
+end

@@ -1,0 +1,5 @@
+(set-logic LIA)
+(declare-const x0 Int)
+(declare-const x1 Int)
+(assert (and (<= 1 (- x0 (* 2 x1))) (<= 0 (+ x0 (* 2 x1))) (<= x0 0)))
+(check-sat)

@@ -1,0 +1,11 @@
+simsat-strategy 1
+goals 1
+goal 0 sat
+turns t
+t
+proof 4
+path 0
+def 1 0
+sum 1 0 1 1 1
+false 2
+end

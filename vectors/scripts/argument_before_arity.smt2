@@ -1,0 +1,2 @@
+(set-logic LIA)
+(assert (< (+ 1 true)))

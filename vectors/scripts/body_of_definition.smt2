@@ -1,0 +1,2 @@
+(set-logic LIA)
+(define-fun f ((a Int)) Bool a)

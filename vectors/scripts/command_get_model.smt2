@@ -1,0 +1,3 @@
+(set-logic LIA)
+(check-sat)
+(get-model)

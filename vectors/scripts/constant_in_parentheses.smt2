@@ -1,0 +1,3 @@
+(set-logic LIA)
+(declare-const n Int)
+(assert (< (n) 1))

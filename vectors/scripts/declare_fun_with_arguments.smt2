@@ -1,0 +1,2 @@
+(set-logic LIA)
+(declare-fun f (Int) Int)

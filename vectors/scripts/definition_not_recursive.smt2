@@ -1,0 +1,2 @@
+(set-logic LRA)
+(define-fun f ((a Real)) Real (f a))

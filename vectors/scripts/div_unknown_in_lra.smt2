@@ -1,0 +1,3 @@
+(set-logic LRA)
+(declare-const x Real)
+(assert (< (div x 2) 1))

@@ -1,0 +1,3 @@
+(set-logic LIA)
+(declare-const n Int)
+(assert ((_ divisible 0) n))

@@ -1,0 +1,3 @@
+(set-logic LIA)
+(declare-const n Int)
+(assert (< (div n (- 2 2)) 1))

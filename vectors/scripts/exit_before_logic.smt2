@@ -1,0 +1,1 @@
+(set-info :status sat)(exit)(foo

@@ -1,0 +1,4 @@
+(set-logic LIA)
+(check-sat)
+(exit)
+)

@@ -1,0 +1,5 @@
+(set-logic LIA)
+(check-sat)
+(set-info :a b)
+(set-option :c d)
+(exit)

@@ -1,0 +1,1 @@
+(set-info :a (b c "d" #xF1 |e f|))

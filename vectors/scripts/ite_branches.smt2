@@ -1,0 +1,2 @@
+(set-logic LIA)
+(assert (ite true 2 false))

@@ -1,0 +1,1 @@
+(set-logic 5)

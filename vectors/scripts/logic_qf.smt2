@@ -1,0 +1,3 @@
+(set-logic QF_LIA)
+(assert (forall ((n Int)) (< n 1)))
+(check-sat)

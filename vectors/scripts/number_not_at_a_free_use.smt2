@@ -1,0 +1,5 @@
+(set-logic LIA)
+(declare-const n Int)
+(define-fun f ((a Int)) Int (- (+ a 4503599627370496 1) n))
+(assert (= 1 (f n)))
+(check-sat)

@@ -1,0 +1,2 @@
+(set-logic LIA)
+(declare-const 5 Int)

@@ -1,0 +1,3 @@
+(set-logic LIA)
+(declare-const n Int)
+(define-fun g ((a Int)) Int (* a n))

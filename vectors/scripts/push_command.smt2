@@ -1,0 +1,6 @@
+(set-logic LIA)
+(push 1)
+(assert false)
+(check-sat)
+(pop 1)
+(check-sat)

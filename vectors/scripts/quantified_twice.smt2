@@ -1,0 +1,2 @@
+(set-logic LRA)
+(assert (forall ((a Real) (a Bool)) a))

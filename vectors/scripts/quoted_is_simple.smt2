@@ -1,0 +1,4 @@
+(set-logic LRA)
+(declare-const |x| Real)
+(assert (< x |x|))
+(check-sat)

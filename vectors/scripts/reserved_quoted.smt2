@@ -1,0 +1,4 @@
+(set-logic LRA)
+(declare-const |let| Real)
+(assert (< |let| 1))
+(check-sat)

@@ -1,0 +1,2 @@
+(set-option :print-success false)
+(set-option :print-success |false|)

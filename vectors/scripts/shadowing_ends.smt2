@@ -1,0 +1,3 @@
+(set-logic LIA)
+(declare-const n Int)
+(assert (and (let ((n true)) n) n))

@@ -1,0 +1,4 @@
+(set-logic LIA)
+(declare-const / Int)
+(assert (< / 1))
+(check-sat)

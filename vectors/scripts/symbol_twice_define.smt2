@@ -1,0 +1,3 @@
+(set-logic LRA)
+(declare-const x Real)
+(define-fun x () Real 1)

@@ -1,0 +1,3 @@
+(set-logic LRA)
+(declare-const x Real)
+(declare-const |x| Bool)

@@ -1,0 +1,2 @@
+; é
+(set-info :a "é")(set-info :b |é|)

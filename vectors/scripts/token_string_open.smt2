@@ -1,0 +1,1 @@
+(set-info :a "b ""c)
