@@ -1,0 +1,128 @@
+#!/usr/bin/env python3
+"""Makes inputs for the checker, runs it over them and prints instructions and peak memory.
+
+    python3 bench/checker.py [--checker PROGRAM] [GROUP ..]
+
+The checker is the one that `rt run` leaves in crates/simcheck/out. GROUP is one of
+    sums    a proof of as many `sum` lines
+    paths   a skeleton of as many paths, and a `path` line each
+    file    a strategy file of about as many bytes
+    script  a script of about as many bytes
+    lets    as many `let` bindings, one inside the other
+    defs    as many definitions, each used by the next
+    atoms   a conjunction of as many atoms
+    nested  as many quantifiers that alternate, and as many declared constants
+    least   an elimination with as many cases
+Instructions are counted by `valgrind --tool=callgrind`, peak memory by GNU time.
+"""
+import argparse
+import os
+import re
+import subprocess
+import tempfile
+
+OPEN_END = "(set-logic LRA)\n(assert (forall ((x Real)) (exists ((y Real)) (< x y))))\n(check-sat)\n"
+UNKNOWN = "simsat-strategy 1\ngoals 1\ngoal 0 unknown\nend\n"
+HEAD = "simsat-strategy 1\ngoals 1\ngoal 0 sat\nturns to\nt\n"
+
+
+def sums(n):
+    body = "sum 1 0 1 1 1\n" * n
+    return OPEN_END, f"{HEAD}o 1\nm 1 1 1 0\nproof {n + 3}\npath 0\ndef 1 0\n{body}false {n + 1}\nend\n", n
+
+
+def paths(n):
+    moves = "".join(f"m 1 {i + 1} 1 0\n" for i in range(n))
+    body = "".join(f"path {i}\n" for i in range(n))
+    return OPEN_END, f"{HEAD}o {n}\n{moves}proof {n + 3}\n{body}def 1 0\nsum 1 0 1 {n} 1\nfalse {n + 1}\nend\n", n
+
+
+def file(size):
+    script, text, _ = sums(max(1, (size - 100) // 14))
+    return script, text, len(text)
+
+
+def script(size):
+    atom = "(assert (or (< (+ x (* 3 y) 1) (- y x)) (<= x 10)))\n"
+    head = "(set-logic LRA)\n(declare-const x Real)\n(declare-const y Real)\n"
+    text = head + atom * ((size - len(head)) // len(atom)) + "(check-sat)\n"
+    return text, UNKNOWN, len(text)
+
+
+def lets(n):
+    # no goal: what is asserted would be as deep as the bindings
+    text = "(set-logic LRA)\n(declare-const x Real)\n(assert (let ("
+    text += " ".join(f"(v{i} (+ x {i}))" for i in range(n)) + f") (< v0 v{n - 1})))\n(check-sat)\n"
+    return text, UNKNOWN, n
+
+
+def defs(n):
+    text = "(set-logic LRA)\n(define-fun f0 ((a Real)) Real (+ a 1))\n"
+    text += "".join(f"(define-fun f{i} ((a Real)) Real (+ (f{i // 2} a) 1))\n" for i in range(1, n))
+    return text + f"(assert (< (f{n - 1} 0) 100))\n(check-sat)\n", UNKNOWN, n
+
+
+def atoms(n):
+    text = "(set-logic LRA)\n(declare-const x Real)\n(assert (and\n"
+    text += "".join(f"(< x {i})\n" for i in range(n)) + "))\n(check-sat)\n"
+    return text, UNKNOWN, n
+
+
+def nested(n):
+    text = "(set-logic LRA)\n" + "".join(f"(declare-const c{i} Real)\n" for i in range(1024 - n))
+    text += "(assert " + "".join(f"({'forall' if i % 2 else 'exists'} ((x{i} Real)) " for i in range(n))
+    text += f"(< x0 x{n - 1})" + ")" * n + ")\n(check-sat)\n"
+    return text, UNKNOWN, n
+
+
+def least(n):
+    text = f"(set-logic LIA)\n(declare-const x Int)\n(assert (and ((_ divisible {n}) x) ((_ divisible {n}) (+ x 1))))\n(check-sat)\n"
+    body = "false 1\n" + "false 0\n" * (n - 1)
+    return text, f"simsat-strategy 1\ngoals 1\ngoal 0 unsat\nturns t\nt\nproof {n + 5}\npath 0\npart 0 0\npart 0 1\ncube 1 2\nleast 0 {n}\n{body}end\n", n
+
+
+GROUPS = {
+    "sums": (sums, (1000, 10000, 100000)),
+    "paths": (paths, (1000, 10000, 100000)),
+    "file": (file, (100000, 1000000, 10000000)),
+    "script": (script, (100000, 1000000, 10000000)),
+    "lets": (lets, (200, 2000, 20000)),
+    "defs": (defs, (200, 2000, 20000)),
+    "atoms": (atoms, (1000, 10000, 100000)),
+    "nested": (nested, (125, 250, 500)),
+    "least": (least, (2, 64, 4096)),
+}
+
+
+def measure(checker, folder, made):
+    text, strategy, units = made
+    names = os.path.join(folder, "a.smt2"), os.path.join(folder, "a.ss")
+    for name, content in zip(names, (text, strategy)):
+        with open(name, "w") as out:
+            out.write(content)
+    timed = subprocess.run(["/usr/bin/time", "-v", checker, *names], capture_output=True, text=True)
+    memory = int(re.search(r"Maximum resident set size \(kbytes\): (\d+)", timed.stderr).group(1))
+    counted = subprocess.run(
+        ["valgrind", "--tool=callgrind", f"--callgrind-out-file={folder}/callgrind.out", checker, *names],
+        capture_output=True, text=True)
+    instructions = int(re.search(r"Collected : (\d+)", counted.stderr).group(1))
+    return units, len(text) + len(strategy), instructions, memory, timed.stdout.strip()
+
+
+def main():
+    here = os.path.dirname(os.path.abspath(__file__))
+    parser = argparse.ArgumentParser()
+    parser.add_argument("--checker", default=os.path.join(here, "..", "crates", "simcheck", "out", "simcheck"))
+    parser.add_argument("groups", nargs="*", default=list(GROUPS))
+    chosen = parser.parse_args()
+    print("| input | bytes | instructions | a unit | peak memory, KB | printed |")
+    print("|---|---|---|---|---|---|")
+    with tempfile.TemporaryDirectory() as folder:
+        for group in chosen.groups:
+            make, sizes = GROUPS[group]
+            for size in sizes:
+                units, size_in, count, memory, printed = measure(chosen.checker, folder, make(size))
+                print(f"| {group} {size} | {size_in} | {count} | {count / units:.1f} | {memory} | {printed} |", flush=True)
+
+
+main()
