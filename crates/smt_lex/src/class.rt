@@ -18,7 +18,7 @@ static CLASS: [u8; 256] = *b"\
     1111111111111111111111111111111111111111111111111111111111111111\
     1111111111111111111111111111111111111111111111111111111111111111";
 
-// Whether a run may hold the byte.
+/// Whether a run may hold the byte.
 #[inline]
 pub fn is_of_run(b: u8) -> bool
     ensures { result ≡ spec.is_of_run b }
@@ -26,7 +26,7 @@ pub fn is_of_run(b: u8) -> bool
     CLASS[b as usize] & RUN != 0
 }
 
-// Whether a symbol may hold the byte.
+/// Whether a symbol may hold the byte.
 #[inline]
 pub fn is_symbol_byte(b: u8) -> bool
     ensures { result ≡ spec.is_symbol_byte b }

@@ -20,6 +20,7 @@ pub struct Known {
     pub signature: u32,
 }
 
+/// A name, and what it stands for.
 #[derive(Clone, Copy, Debug)]
 pub struct Row<'a> {
     name: &'a [u8],

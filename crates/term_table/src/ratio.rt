@@ -152,18 +152,21 @@ pub fn written(num: i64, den: i64) -> Option<Ratio>
     kept(num as i128, den)
 }
 
+/// The negative; none where a number of it is past the cap.
 pub fn negative(x: Ratio) -> Option<Ratio>
     ensures { result ≡ spec.kept (v_neg x) }
 {
     kept(-(x.num() as i128), x.den() as u128)
 }
 
+/// The absolute value; none where a number of it is past the cap.
 pub fn absolute(x: Ratio) -> Option<Ratio>
     ensures { result ≡ spec.kept (v_abs x) }
 {
     kept(x.num().unsigned_abs() as i128, x.den() as u128)
 }
 
+/// The sum in lowest terms; none where a number of it is past the cap.
 pub fn plus(x: Ratio, y: Ratio) -> Option<Ratio>
     ensures { result ≡ spec.kept (v_plus x y) }
 {
@@ -172,6 +175,7 @@ pub fn plus(x: Ratio, y: Ratio) -> Option<Ratio>
     kept(left + right, common(x.den(), y.den()))
 }
 
+/// The difference in lowest terms; none where a number of it is past the cap.
 pub fn minus(x: Ratio, y: Ratio) -> Option<Ratio>
     ensures { result ≡ spec.kept (v_minus x y) }
 {
@@ -180,6 +184,7 @@ pub fn minus(x: Ratio, y: Ratio) -> Option<Ratio>
     kept(left + right, common(x.den(), y.den()))
 }
 
+/// The product in lowest terms; none where a number of it is past the cap.
 pub fn times_each(x: Ratio, y: Ratio) -> Option<Ratio>
     ensures { result ≡ spec.kept (v_times x y) }
 {

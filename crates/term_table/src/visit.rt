@@ -117,6 +117,7 @@ impl Writer {
         self.enter(inner, body, above + count)
     }
 
+    /// The body of a definition at its arguments.
     pub fn definition(
         &mut self,
         alloc: Global,
