@@ -53,23 +53,11 @@ fn row_within(row: &Row) -> bool
     true
 }
 
-/// The row of a literal.
-fn row_of(lit: &Lit) -> &Row
-    ensures { result.now ≡ form_of lit.now }
-{
-    match lit {
-        Lit::AtLeast(row) => row,
-        Lit::Above(row) => row,
-        Lit::Divides(_, row) => row,
-        Lit::NotDivides(_, row) => row,
-    }
-}
-
 /// Whether the literal's variables are below n.
 pub(crate) fn has_variables_below(lit: &Lit, n: u32) -> bool
     ensures { result ≡ all_below n (form_of lit.now).terms }
 {
-    is_below(row_of(lit).coefs(), n)
+    is_below(lit.row().coefs(), n)
 }
 
 /// Whether the variables of the terms are below n.

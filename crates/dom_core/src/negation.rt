@@ -9,7 +9,7 @@ ghost use Rattle.dom_core.specs.View.{matrix_of, matrices_of};
 ghost use Rattle.dom_core.specs.Negation.{IsPrimitiveMatrix, ArePrimitiveMatrices, negation_numbers, negations_numbers, HasRows, HaveRows};
 
 use crate::matrix::Matrix;
-use lin_term::{Lit, Memory, Row, Short, Sort, negate};
+use lin_term::{Lit, Memory, Short, Sort, negate};
 use sqlite_items::Items;
 use std::alloc::Global;
 
@@ -53,18 +53,6 @@ fn wide_part(alloc: Global, sort: Sort, parts: &[Matrix]) -> Result<Option<i128>
     Ok(None)
 }
 
-/// The form of a literal.
-fn row_of(lit: &Lit) -> &Row
-    ensures { result.now ≡ form_of lit.now }
-{
-    match lit {
-        Lit::AtLeast(row) => row,
-        Lit::Above(row) => row,
-        Lit::Divides(_, row) => row,
-        Lit::NotDivides(_, row) => row,
-    }
-}
-
 /// The negation of a literal, which is within the cap; refuses only for memory.
 fn negated_literal(alloc: Global, sort: Sort, lit: &Lit) -> Result<Lit, Memory>
     requires primitive { IsPrimitive sort lit.now }
@@ -73,7 +61,7 @@ fn negated_literal(alloc: Global, sort: Sort, lit: &Lit) -> Result<Lit, Memory>
     ensures row { IfOk result (λ l. IsRow (form_of lit.now)) }
 {
     // What is read of a row says that it is within the cap.
-    let row = row_of(lit);
+    let row = lit.row();
     let _terms = row.coefs();
     let _constant = row.constant_part();
     match negate(alloc, sort, lit) {

@@ -1,16 +1,9 @@
 -- What is known of an elimination before any case is built: its period and how many cases there are.
-use Rattle.std.specs.Prelude.{ℕ, ◌*◌, ◌≡◌, ℤ, pos, if◌then◌else◌, Option, Some, None, Result, Ok, Err, List, ◌++◌, map}
+use Rattle.std.specs.Prelude.{ℕ, ◌*◌, ℤ, pos, if◌then◌else◌, List, ◌++◌, map}
 use Rattle.lin_term.specs.declared.Lit.{Lit}
 use Rattle.lin_term.specs.declared.Lit.TheVariants.{AtLeast, Above, Divides, NotDivides}
-use Rattle.lin_term.specs.declared.Wide.{Wide}
 use Rattle.lin_term.specs.PutIn.{coef}
-use Rattle.lin_term.specs.Wide.{first_past}
 use Rattle.dom_core.specs.Elimination.{size_at, is_lower, next_delta, partial_deltas, delta, count_sums}
-
--- all numbers fit and the answer is the value, or the first that does not fit is named
-abbrev pub CappedWide : {A : Type 0} → List ℤ → A → Result A Wide → Type 0
-CappedWide {A} numbers value (Ok x) = (first_past numbers ≡ None) × (x ≡ value)
-CappedWide {A} numbers value (Err w) = first_past numbers ≡ Some w.number
 
 -- the period of the first literals becomes that of one more
 abbrev pub delta_after : ℕ → ℕ → Lit → ℕ

@@ -4,7 +4,7 @@ ghost use Rattle.std.specs.Prelude.{◌≡◌, ◌<◌, ◌≤◌, ◌^◌, ◌+
 ghost use Rattle.lin_term.specs.declared.Sort.TheVariants.{Int};
 ghost use Rattle.lin_term.specs.Form.{AreTerms, cap};
 ghost use Rattle.lin_term.specs.Linear.{times_terms};
-ghost use Rattle.lin_term.specs.Literal.{form_of, IsPrimitive, prim};
+ghost use Rattle.lin_term.specs.Literal.{IsPrimitive, prim};
 ghost use Rattle.lin_term.specs.Primable.{IsPrimable};
 ghost use Rattle.lin_term.specs.declared.Lit.TheVariants.{Divides};
 ghost use Rattle.lin_term.specs.PutIn.{without, put_lit};
@@ -26,7 +26,7 @@ fn opposite_terms(alloc: Global, row: &Row, var: u32) -> Result<Coefs, Memory>
     ensures terms { IfOk result (λ v. v.items ≡ times_terms (negsuc 0) (without row.now.terms var)) }
     ensures kept { IfOk result (λ v. AreTerms 0 v.items) }
 {
-    let mut terms = SmallVec::new(alloc);
+    let mut terms = SmallVec::with_capacity(alloc, row.coefs().len())?;
     for term in row.coefs() {
         if term.0 != var {
             match terms.push((term.0, -term.1)) {
@@ -114,18 +114,6 @@ fn put_each(
     Ok(())
 }
 
-/// The row of a literal.
-fn row_of(lit: &Lit) -> &Row
-    ensures { result.now ≡ form_of lit.now }
-{
-    match lit {
-        Lit::AtLeast(row) => row,
-        Lit::Above(row) => row,
-        Lit::Divides(_, row) => row,
-        Lit::NotDivides(_, row) => row,
-    }
-}
-
 /// The cube with (terms + constant)/div put in, and at one place that div divides the numerator.
 fn case_with(
     alloc: Global,
@@ -191,7 +179,7 @@ pub(crate) fn lower_case(
     requires k_kept { k ≤ cap }
     ensures { Capped (cube_numbers (lower_case var (take place cube.now) (lit_at cube.now place) (drop (place + 1) cube.now) k)) (lower_case var (take place cube.now) (lit_at cube.now place) (drop (place + 1) cube.now) k) result }
 {
-    let row = row_of(&cube[place]);
+    let row = cube[place].row();
     let a = coefficient_at(row, var);
     let constant = less(k, row.constant_part());
     match opposite_terms(alloc, row, var) {

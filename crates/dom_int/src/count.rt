@@ -3,7 +3,8 @@
 ghost use Rattle.std.specs.Prelude.{◌≡◌, ◌≤◌, ◌^◌, pos, map, IfOk};
 ghost use Rattle.lin_term.specs.Form.{cap};
 ghost use Rattle.dom_core.specs.Elimination.{last_of, count_sums};
-ghost use Rattle.dom_int.specs.Counts.{CappedWide, count_at};
+ghost use Rattle.dom_int.specs.Counts.{count_at};
+ghost use Rattle.lin_term.specs.Wide.{CappedWide};
 
 use lin_term::{CAP, Lit, Wide, coefficient_at};
 

@@ -3,10 +3,10 @@
 ghost use Rattle.std.specs.Prelude.{◌≡◌, ◌<◌, ◌≤◌, length, None};
 ghost use Rattle.lin_term.specs.declared.Sort.TheVariants.{Int};
 ghost use Rattle.lin_term.specs.Form.{cap};
-ghost use Rattle.lin_term.specs.Wide.{Capped, first_past};
+ghost use Rattle.lin_term.specs.Wide.{Capped, CappedWide, first_past};
 ghost use Rattle.dom_core.specs.Cube.{IsPrimitiveCube};
 ghost use Rattle.dom_core.specs.Elimination.{cooper, cube_numbers, elimination_numbers};
-ghost use Rattle.dom_int.specs.Counts.{CappedWide, first_numbers};
+ghost use Rattle.dom_int.specs.Counts.{first_numbers};
 ghost use Rattle.dom_int.specs.Case.{case_at};
 
 use crate::case::{free_case, lower_case};

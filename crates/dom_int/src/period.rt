@@ -6,7 +6,8 @@ ghost use Rattle.lin_term.specs.Form.{cap};
 ghost use Rattle.lin_term.specs.Primable.{IsPrimable};
 ghost use Rattle.dom_core.specs.Cube.{IsPrimitiveCube};
 ghost use Rattle.dom_core.specs.Elimination.{next_delta, partial_deltas, delta};
-ghost use Rattle.dom_int.specs.Counts.{CappedWide, delta_after};
+ghost use Rattle.dom_int.specs.Counts.{delta_after};
+ghost use Rattle.lin_term.specs.Wide.{CappedWide};
 
 use lin_term::{CAP, Lit, Wide, coefficient_at, gcd_of_words};
 

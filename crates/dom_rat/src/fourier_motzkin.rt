@@ -3,7 +3,6 @@
 ghost use Rattle.std.specs.Prelude.{◌≡◌, ◌≤◌, nat_abs, map, filter, [], ◌∷◌};
 ghost use Rattle.lin_term.specs.declared.Sort.TheVariants.{Rat};
 ghost use Rattle.lin_term.specs.Form.{cap};
-ghost use Rattle.lin_term.specs.Literal.{form_of};
 ghost use Rattle.lin_term.specs.Primable.{IsPrimable};
 ghost use Rattle.lin_term.specs.PutIn.{coef};
 ghost use Rattle.lin_term.specs.Wide.{Capped, lit_numbers};
@@ -13,28 +12,16 @@ ghost use Rattle.dom_core.specs.Adding.{AddsCube};
 ghost use Rattle.dom_rat.specs.Sums.{sums_of, all_sums};
 
 use dom_core::{Cube, is_lower, is_upper};
-use lin_term::{Lit, Row, Short, Wide, add_multiples, coefficient_at, gcd_of_words};
+use lin_term::{Lit, Short, Wide, add_multiples, coefficient_at, gcd_of_words};
 use sqlite_items::Items;
 use std::alloc::Global;
-
-/// The row of a literal.
-fn row_of(lit: &Lit) -> &Row
-    ensures { result.now ≡ form_of lit.now }
-{
-    match lit {
-        Lit::AtLeast(row) => row,
-        Lit::Above(row) => row,
-        Lit::Divides(_, row) => row,
-        Lit::NotDivides(_, row) => row,
-    }
-}
 
 /// The size of the coefficient of the variable.
 fn size_of(lit: &Lit, var: u32) -> u64
     ensures value { result ≡ size_at var lit.now }
     ensures kept { result ≤ cap }
 {
-    coefficient_at(row_of(lit), var).unsigned_abs()
+    coefficient_at(lit.row(), var).unsigned_abs()
 }
 
 /// The sum of a lower and an upper literal by the least positive multipliers that cancel the variable.
@@ -129,7 +116,7 @@ fn add_all_sums(
 fn is_without(lit: &Lit, var: u32) -> bool
     ensures { result ≡ is_free var lit.now }
 {
-    coefficient_at(row_of(lit), var) == 0
+    coefficient_at(lit.row(), var) == 0
 }
 
 /// A copy of the literal, added to the others, where it does not have the variable.
@@ -137,7 +124,7 @@ fn add_if_free(alloc: Global, out: &mut Items<Lit>, var: u32, lit: &Lit) -> Resu
     requires { IsPrimable Rat lit.now }
     ensures { AddsCube out.old out.new (filter (is_free var) (lit.now ∷ [])) result }
 {
-    let row = row_of(lit);
+    let row = lit.row();
     let _terms = row.coefs();
     let _constant = row.constant_part();
     if !is_without(lit, var) {

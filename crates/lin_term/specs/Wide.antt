@@ -33,3 +33,8 @@ abbrev pub Capped : {A : Type 0} → List ℤ → A → Result A (Short Wide) �
 Capped {A} numbers value (Ok x) = (first_past numbers ≡ None) × (x ≡ value)
 Capped {A} numbers value (Err (short.Fault w)) = first_past numbers ≡ Some w.number
 Capped {A} numbers value (Err short.Memory) = ⊤
+
+-- the same of a call that takes no memory
+abbrev pub CappedWide : {A : Type 0} → List ℤ → A → Result A Wide → Type 0
+CappedWide {A} numbers value (Ok x) = (first_past numbers ≡ None) × (x ≡ value)
+CappedWide {A} numbers value (Err w) = first_past numbers ≡ Some w.number

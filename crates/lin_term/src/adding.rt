@@ -7,7 +7,7 @@ ghost use Rattle.lin_term.specs.Literal.{IsPrimitive, prim};
 ghost use Rattle.lin_term.specs.Sum.{sum_of, inequality_with};
 ghost use Rattle.lin_term.specs.Wide.{Capped, form_numbers, lit_numbers};
 
-use crate::combining::{NO_VARIABLE, inequality, is_either_strict, row_of, sum_of_products};
+use crate::combining::{NO_VARIABLE, inequality, is_either_strict, sum_of_products};
 use crate::fault::{Short, Wide};
 use crate::lit::Lit;
 use crate::putting::sum_row;
@@ -32,8 +32,8 @@ pub fn add_multiples(alloc: Global, p: i64, a: &Lit, q: i64, b: &Lit) -> Result<
     ensures { Capped (lit_numbers (prim Rat (sum_of p a.now q b.now))) (prim Rat (sum_of p a.now q b.now)) result }
 {
     let strict = is_either_strict(a, b);
-    let left = row_of(a);
-    let right = row_of(b);
+    let left = a.row();
+    let right = b.row();
     let constant = sum_of_products(p, left.constant_part(), q, right.constant_part());
     let left = left.coefs();
     let right = right.coefs();

@@ -160,11 +160,7 @@ fn push_quotient(out: &mut Coefs, var: u32, coef: i128, g: i128) -> Result<(), S
     if coef == 0 {
         return Ok(());
     }
-    let number = if g == 1 {
-        coef
-    } else {
-        floor_quotient(coef, g)
-    };
+    let number = floor_quotient(coef, g);
     if !is_within(number) {
         return Err(Short::Fault(Wide { number }));
     }
@@ -191,7 +187,7 @@ pub fn quotients_of_sum(
     requires right_kept { AreTerms 0 right.now }
     ensures { CappedTerms (quotient_terms (reduce_by (nat_abs modulus) (sum_terms p left.now q right.now skip)) (nat_abs g)) result }
 {
-    let mut out = SmallVec::new(alloc);
+    let mut out = SmallVec::with_capacity(alloc, left.len().max(right.len()))?;
     let mut i = 0;
     let mut j = 0;
     while let Some(head) = find_head(p, &left[i..], q, &right[j..], skip) {

@@ -2,7 +2,7 @@
 
 ghost use Rattle.std.specs.Prelude.{◌≡◌, ◌≤◌, ◌↔◌, ◌^◌, IsTrue, ℕ, ℤ, pos, ◌≤ℤ◌, ◌+ℤ◌, ◌*ℤ◌, ◌||◌, nat_abs};
 ghost use Rattle.lin_term.specs.Form.{AreTerms, cap};
-ghost use Rattle.lin_term.specs.Literal.{IsPrimitive, form_of};
+ghost use Rattle.lin_term.specs.Literal.{IsPrimitive};
 ghost use Rattle.lin_term.specs.Sum.{IsInequality, sum_of, Combined, MayBe, is_strict as is_strict_literal, inequality_with, combine_fault};
 ghost use Rattle.lin_term.specs.Settle.{sum_form};
 
@@ -55,8 +55,8 @@ pub fn combine(
     ensures { Combined sort (sum_of p a.now q b.now) (nat_abs g) result }
 {
     let strict = is_either_strict(a, b);
-    let left = row_of(a);
-    let right = row_of(b);
+    let left = a.row();
+    let right = b.row();
     let constant = sum_of_products(p, left.constant_part(), q, right.constant_part());
     let left = left.coefs();
     let right = right.coefs();
@@ -109,18 +109,6 @@ fn fault_of(fault: Short<Wide>) -> CombineFault
             number: wide.number,
         },
         Short::Memory => CombineFault::Memory,
-    }
-}
-
-/// The row of a literal.
-pub(crate) fn row_of(lit: &Lit) -> &Row
-    ensures { result.now ≡ form_of lit.now }
-{
-    match lit {
-        Lit::AtLeast(row) => row,
-        Lit::Above(row) => row,
-        Lit::Divides(_, row) => row,
-        Lit::NotDivides(_, row) => row,
     }
 }
 

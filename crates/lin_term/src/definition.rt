@@ -61,7 +61,7 @@ pub fn renamed_row(alloc: Global, row: &Row, names: &[u32]) -> Result<Row, Memor
     requires below { Below (length names.now) row.now }
     ensures { IfOk result (λ r. r ≡ rename names.now row.now) }
 {
-    let mut coefs = Coefs::new(alloc);
+    let mut coefs = Coefs::with_capacity(alloc, row.coefs().len())?;
     for (var, coef) in row.coefs() {
         match coefs.push((names[*var as usize], *coef)) {
             Ok(()) => {}

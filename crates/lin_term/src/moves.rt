@@ -6,9 +6,9 @@ ghost use Rattle.lin_term.specs.Literal.{quotient, quotient_terms};
 ghost use Rattle.lin_term.specs.Move.{IsMove, move_divisor, lowest, IsLowest};
 ghost use Rattle.lin_term.specs.Definition.{move_numbers, IsKept};
 ghost use Rattle.lin_term.specs.Upper.{upper_constant as upper_constant_of};
-ghost use Rattle.lin_term.specs.Wide.{Capped};
+ghost use Rattle.lin_term.specs.Wide.{CappedWide};
 
-use crate::fault::{Memory, Short, Wide};
+use crate::fault::{Memory, Wide};
 use crate::numbers::{common_divisor, floor_of_words, gcd_of_words};
 use crate::primitive_form::divide_all;
 use crate::row::{CAP, Coefs, Row, Sort};
@@ -36,11 +36,12 @@ impl Model for Move {
 
 impl Move {
     /// The move in lowest form; the divisor lies in `1..=CAP`. Wide comes exactly where a number of that form or of its two
-    /// definition literals is past the cap, and names the first: divisor, coefficients, constant, literal 0, literal 1.
-    pub fn make(sort: Sort, row: Row, div: i64) -> Result<Move, Short<Wide>>
+    /// definition literals is past the cap, and names the first: divisor, coefficients, constant, literal 0, literal 1. It
+    /// takes no memory.
+    pub fn make(sort: Sort, row: Row, div: i64) -> Result<Move, Wide>
         requires least { pos 1 ≤ℤ div }
         requires greatest { nat_abs div ≤ cap }
-        ensures { let m = lowest sort (record { numer = row; div = nat_abs div }) in Capped (move_numbers sort m) m result }
+        ensures { let m = lowest sort (record { numer = row; div = nat_abs div }) in CappedWide (move_numbers sort m) m result }
     {
         with_definition(sort, lowest_form(sort, row, div))
     }
@@ -163,15 +164,15 @@ fn is_one_and_within(g: u64, number: i64) -> bool
 
 /// The move, which is in lowest form, where its definition is within the cap. Of the definition's numbers only the
 /// constant of literal 0 can be past it, and only above.
-fn with_definition(sort: Sort, term: Move) -> Result<Move, Short<Wide>>
+fn with_definition(sort: Sort, term: Move) -> Result<Move, Wide>
     requires { IsLowest sort term }
-    ensures { Capped (move_numbers sort term) term result }
+    ensures { CappedWide (move_numbers sort term) term result }
 {
     let number = definition_constant(sort, &term);
     if number > CAP {
-        return Err(Short::Fault(Wide {
+        return Err(Wide {
             number: number as i128,
-        }));
+        });
     }
     Ok(term)
 }

@@ -12,7 +12,6 @@ ghost use Rattle.lin_term.specs.Wide.{Capped, form_numbers, lit_numbers};
 
 use crate::blend::product;
 use crate::coefficient::coefficient_at;
-use crate::combining::row_of;
 use crate::fault::{Short, Wide};
 use crate::lit::Lit;
 use crate::moves::Move;
@@ -176,7 +175,7 @@ pub fn put_in(
     requires a_kept { nat_abs a ≤ cap }
     ensures { let l = put_lit sort var (nat_abs a) (record { terms = terms.now; constant = constant }) lit.now in Capped (lit_numbers l) l result }
 {
-    let row = row_of(lit);
+    let row = lit.row();
     let _terms = row.coefs();
     let c = coefficient_at(row, var);
     if c == 0 {
@@ -222,7 +221,7 @@ fn copied(alloc: Global, sort: Sort, lit: &Lit) -> Result<Lit, Short<Wide>>
     requires { IsPrimable sort lit.now }
     ensures { Capped (lit_numbers lit.now) lit.now result }
 {
-    let row = row_of(lit);
+    let row = lit.row();
     let _terms = row.coefs();
     let _constant = row.constant_part();
     match lit.copy(alloc) {

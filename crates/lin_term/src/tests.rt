@@ -180,7 +180,7 @@ fn wide_definitions(rt: HostRuntime) {
     let alloc = rt.alloc();
     let row = line(alloc, 1, -CAP).expect(&rt, "memory");
     match Move::make(Sort::Int, row, 2) {
-        Err(Short::Fault(wide)) => assert!(rt; wide.number == 4_503_599_627_370_497),
+        Err(wide) => assert!(rt; wide.number == 4_503_599_627_370_497),
         _ => panic!(rt; "a number of the definition is past the cap"),
     }
     let row = line(alloc, 2, -CAP).expect(&rt, "memory");

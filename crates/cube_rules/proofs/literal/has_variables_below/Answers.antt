@@ -6,4 +6,4 @@ use Rattle.cube_rules.proofs.literal.has_variables_below.Goals as goal
 
 pub returns : goal.returns
 returns c =
-    c.is_below.ensures ∙ list_all-below c.args.n c.coefs.result.now ∙ ap (all_below c.args.n) (c.coefs.ensures.terms ∙ ap (λ (f : Form). f.terms) c.row_of.ensures)
+    c.is_below.ensures ∙ list_all-below c.args.n c.coefs.result.now ∙ ap (all_below c.args.n) (c.coefs.ensures.terms ∙ ap (λ (f : Form). f.terms) c.row.ensures)

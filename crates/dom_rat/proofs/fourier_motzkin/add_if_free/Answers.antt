@@ -15,7 +15,7 @@ returns-in-Ok-push c =
     let x = c.args.var in
     let terms = subst (λ (us : List (ℕ × ℤ)). AreTerms 0 us) c.coefs-terms.ensures.terms c.coefs-terms.ensures.kept in
     let constant = subst (λ (z : ℤ). nat_abs z ≤ cap) c.constant_part-constant.ensures.value c.constant_part-constant.ensures.kept in
-    let row = subst (λ (f : Form). IsRow f) c.row_of-row.ensures (terms, constant) in
+    let row = subst (λ (f : Form). IsRow f) c.row-row.ensures (terms, constant) in
     let z = sym c.is_without.ensures ∙ c.if-not-is_without.false in
     let new = c.in-Ok-push.ensures.ok ∙ ap (λ (m : Lit). c.args.out.now ++ m ∷ []) c.in-Ok.ensures in
     subst (λ (ls : List Lit). AddsCube c.args.out.now c.push.new.self ls (Ok tt)) (sym (free_one x l z)) (added_one c.args.out.now c.push.new.self l (rat_fits l row c.requires) new)

@@ -21,10 +21,10 @@ returns c =
     let left = word_of c.constant_part.result c.constant_part.ensures.kept in
     let right = word_of c.constant_part-2.result c.constant_part-2.ensures.kept in
     let v = simp (to_z-of_z, left, right) at c.sum_of_products-constant.ensures.value in
-    let l : c.constant_part.result ≡ (form_of a).constant = c.constant_part.ensures.value ∙ ap (λ (f : Form). f.constant) c.row_of-left.ensures in
-    let r : c.constant_part-2.result ≡ (form_of b).constant = c.constant_part-2.ensures.value ∙ ap (λ (f : Form). f.constant) c.row_of-right.ensures in
+    let l : c.constant_part.result ≡ (form_of a).constant = c.constant_part.ensures.value ∙ ap (λ (f : Form). f.constant) c.row-left.ensures in
+    let r : c.constant_part-2.result ≡ (form_of b).constant = c.constant_part-2.ensures.value ∙ ap (λ (f : Form). f.constant) c.row-right.ensures in
     let k : c.sum_of_products-constant.result ≡ p *ℤ (form_of a).constant +ℤ q *ℤ (form_of b).constant = v ∙ ap₂ (λ (x y : ℤ). p *ℤ x +ℤ q *ℤ y) l r in
-    let same = sum_form_as p a q b (2 ^ 20) c.coefs-left.result.now c.coefs-right.result.now c.sum_of_products-constant.result (omega arith) (c.coefs-left.ensures.terms ∙ ap (λ (f : Form). f.terms) c.row_of-left.ensures) (c.coefs-right.ensures.terms ∙ ap (λ (f : Form). f.terms) c.row_of-right.ensures) c.coefs-right.ensures.kept k in
+    let same = sum_form_as p a q b (2 ^ 20) c.coefs-left.result.now c.coefs-right.result.now c.sum_of_products-constant.result (omega arith) (c.coefs-left.ensures.terms ∙ ap (λ (f : Form). f.terms) c.row-left.ensures) (c.coefs-right.ensures.terms ∙ ap (λ (f : Form). f.terms) c.row-right.ensures) c.coefs-right.ensures.kept k in
     let s : sum_form (to_z w64 (of_z w64 p)) c.coefs-left.result.now (to_z w64 (of_z w64 q)) c.coefs-right.result.now (2 ^ 20) (to_z w128 (of_z w128 c.sum_of_products-constant.result)) ≡ sum_form p c.coefs-left.result.now q c.coefs-right.result.now (2 ^ 20) c.sum_of_products-constant.result = simp (to_z-of_z, w) in
     let n : nat_abs (to_z w128 (of_z w128 c.args.g)) ≡ nat_abs c.args.g = simp to_z-of_z in
     subst (λ (m : ℕ). Combined c.args.sort (inequality_with (is_strict a || is_strict b) (plus (times p (form_of a)) (times q (form_of b)))) m c.combined.result) n

@@ -7,7 +7,7 @@ use Rattle.lin_term.proofs.Terms.{word_of, term_kept}
 use Rattle.lin_term.proofs.definition.renamed_row.Goals as goal
 
 pub loop-var-init : goal.loop-var-init
-loop-var-init c = record { items = c.coefs-var-items.ensures.terms; so_far = c.new-coefs.ensures.items }
+loop-var-init c = record { items = c.coefs-var-items.ensures.terms; so_far = c.in_ok-coefs.ensures.items }
 
 pub bounds-names-var : goal.bounds-names-var
 bounds-names-var c =

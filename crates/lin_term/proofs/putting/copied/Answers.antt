@@ -7,5 +7,5 @@ pub returns-in-Ok : goal.returns-in-Ok
 returns-in-Ok c =
     let t = subst (λ (us : List (ℕ × ℤ)). AreTerms 0 us) c.coefs-terms.ensures.terms c.coefs-terms.ensures.kept in
     let k = subst (λ (z : ℤ). nat_abs z ≤ cap) c.constant_part-constant.ensures.value c.constant_part-constant.ensures.kept in
-    let r = subst (λ (f : Form). IsRow f) c.row_of-row.ensures (t, k) in
+    let r = subst (λ (f : Form). IsRow f) c.row-row.ensures (t, k) in
     (lit_fits c.args.sort c.args.lit.now r c.requires, c.in-Ok.ensures)
