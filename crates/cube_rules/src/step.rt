@@ -1,14 +1,15 @@
 //! The lines of a proof.
 
-ghost use Rattle.std.specs.Prelude.{◌≡◌, ◌&&◌, ◌^◌, nat_abs, nat_le};
+ghost use Rattle.std.specs.Prelude.{◌≡◌, ◌&&◌, ◌^◌, nat_abs, nat_le, IfOk};
 ghost use Rattle.lin_term.specs.Form.{cap};
 ghost use Rattle.lin_term.specs.Wide.{fits};
 ghost use Rattle.cube_rules.specs.Lines.{is_within, rule_of};
 
 use crate::literal::literal_within;
 use crate::rule::Rule;
-use lin_term::{CAP, Lit};
+use lin_term::{CAP, Lit, Memory};
 use sqlite_items::Items;
+use std::alloc::Global;
 
 /// A line of a proof. Facts are numbered from 0 in the context of the line, paths and nodes in preorder.
 #[derive(Debug, Drop)]
@@ -31,6 +32,25 @@ pub enum Step {
     Least(u32, u64),
     /// A fact that is false: the subproof ends.
     False(u32),
+}
+
+impl Step {
+    /// An equal line; refuses only for memory.
+    pub fn copy(&self, alloc: Global) -> Result<Step, Memory>
+        ensures { IfOk result (λ s. s ≡ self.now) }
+    {
+        match self {
+            Step::Path(path) => Ok(Step::Path(*path)),
+            Step::Def(node, literal) => Ok(Step::Def(*node, *literal)),
+            Step::Part(fact, place) => Ok(Step::Part(*fact, *place)),
+            Step::Cases(fact, count) => Ok(Step::Cases(*fact, *count)),
+            Step::Sum(p, f, q, h, g) => Ok(Step::Sum(*p, *f, *q, *h, *g)),
+            Step::Split(lit) => Ok(Step::Split(lit.copy(alloc)?)),
+            Step::Cube(facts) => Ok(Step::Cube(Items::from_slice(alloc, facts.as_slice())?)),
+            Step::Least(node, count) => Ok(Step::Least(*node, *count)),
+            Step::False(fact) => Ok(Step::False(*fact)),
+        }
+    }
 }
 
 /// The rule that a line is to meet.
