@@ -1,8 +1,11 @@
 //! Conjunctions of literals.
 
-ghost use Rattle.std.specs.Prelude.{◌≡◌, [], ◌∷◌, ◌++◌, IfOk, OnOk};
+ghost use Rattle.std.specs.Prelude.{◌≡◌, IfOk, OnErr};
+ghost use Rattle.lin_term.specs.declared.Lit.{Lit as a_literal};
+ghost use Rattle.lin_term.specs.Wide.{Capped, lit_numbers};
+ghost use Rattle.dom_core.specs.Adding.{AddsLit};
 
-use lin_term::{Lit, Memory};
+use lin_term::{Lit, Memory, Short, Wide};
 use sqlite_items::Items;
 use std::alloc::Global;
 use std::marker::Model;
@@ -54,5 +57,19 @@ impl Cube {
             lits.push(lit.copy(alloc)?)?;
         }
         Ok(Cube { lits })
+    }
+}
+
+/// Adds a literal to the others where it could be made, and else says why it could not.
+pub fn add_made(out: &mut Items<Lit>, made: Result<Lit, Short<Wide>>) -> Result<(), Short<Wide>>
+    ensures adds { (l : a_literal) → Capped (lit_numbers l) l made → AddsLit out.old out.new l result }
+    ensures err { OnErr result (out.new ≡ out.old) }
+{
+    match made {
+        Ok(lit) => match out.push(lit) {
+            Ok(()) => Ok(()),
+            Err(_) => Err(Short::Memory),
+        },
+        Err(fault) => Err(fault),
     }
 }

@@ -10,7 +10,7 @@ mod problem;
 mod quant;
 
 pub use bounds::{is_lower, is_upper};
-pub use cube::Cube;
+pub use cube::{Cube, add_made};
 pub use domain::Domain;
 pub use matrix::{Matrix, copy_all};
 pub use problem::Problem;

@@ -15,7 +15,7 @@ ghost use Rattle.dom_int.specs.Place.{lit_at};
 ghost use Rattle.dom_core.specs.Adding.{AddsLit, AddsCube};
 ghost use Rattle.dom_int.specs.Case.{term_case};
 
-use dom_core::{Cube, is_upper};
+use dom_core::{Cube, add_made, is_upper};
 use lin_term::{Coefs, Lit, Memory, Row, Short, Sort, Wide, coefficient_at, divides_in, put_in};
 use smallvec::SmallVec;
 use sqlite_items::Items;
@@ -56,13 +56,10 @@ fn add_put(
     requires div_kept { nat_abs div ≤ cap }
     ensures { AddsLit out.old out.new (put_lit Int var (nat_abs div) (record { terms = terms.now; constant = constant }) lit.now) result }
 {
-    match put_in(alloc, Sort::Int, lit, var, terms, constant, div) {
-        Ok(put) => match out.push(put) {
-            Ok(()) => Ok(()),
-            Err(_) => Err(Short::Memory),
-        },
-        Err(fault) => Err(fault),
-    }
+    add_made(
+        out,
+        put_in(alloc, Sort::Int, lit, var, terms, constant, div),
+    )
 }
 
 /// The divisibility of the term's numerator, added to the others.
@@ -79,13 +76,7 @@ fn add_divides(
     requires div_kept { nat_abs div ≤ cap }
     ensures { AddsLit out.old out.new (prim Int (Divides (nat_abs div) (record { terms = terms.now; constant = constant }))) result }
 {
-    match divides_in(alloc, terms, constant, div) {
-        Ok(lit) => match out.push(lit) {
-            Ok(()) => Ok(()),
-            Err(_) => Err(Short::Memory),
-        },
-        Err(fault) => Err(fault),
-    }
+    add_made(out, divides_in(alloc, terms, constant, div))
 }
 
 /// Each literal with the term put in, added to the others.

@@ -15,7 +15,7 @@ use Rattle.lin_term.specs.Primable.{IsPrimable}
 use Rattle.lin_term.specs.PutIn.{coef}
 use Rattle.lin_term.specs.Wide.{first_past, lit_numbers, Capped}
 use Rattle.lin_term.proofs.Capping.{past-append, past-append_some, row_fits}
-use Rattle.dom_core.specs.Adding.{AddsCube}
+use Rattle.dom_core.specs.Adding.{AddsLit, AddsCube}
 use Rattle.dom_core.specs.Elimination.{is_positive, is_negative, is_zero, is_lower, is_upper, is_free, size_at, resolvent, fourier_motzkin, cube_numbers}
 use Rattle.dom_core.proofs.AddingLemmas.{append_assoc, append_none, split_at, numbers-append, past_here}
 use Rattle.dom_rat.specs.Sums.{sums_of, all_sums}
@@ -78,9 +78,11 @@ lower_size x (NotDivides d f) e = absurd (cc)
 pub added_one : (old new : List Lit) (l : Lit) → first_past (lit_numbers l) ≡ None → new ≡ old ++ l ∷ [] → AddsCube old new (l ∷ []) (Ok tt)
 added_one old new l n e = (ap first_past (append_none (lit_numbers l)) ∙ n, e)
 
-pub one_refused : (old new : List Lit) (l : Lit) (e : Short Wide) → Capped {A = Lit} (lit_numbers l) l (Err e) → AddsCube old new (l ∷ []) (Err e)
-one_refused old new l (short.Fault w) h = ap first_past (append_none (lit_numbers l)) ∙ h
-one_refused old new l short.Memory h = tt
+-- one literal that is added is a cube that is added
+pub adds_one : (old new : List Lit) (l : Lit) (r : Result (Unit {0}) (Short Wide)) → AddsLit old new l r → AddsCube old new (l ∷ []) r
+adds_one old new l (Ok u) h = (ap first_past (append_none (lit_numbers l)) ∙ h.0, h.1)
+adds_one old new l (Err (short.Fault w)) h = ap first_past (append_none (lit_numbers l)) ∙ h
+adds_one old new l (Err short.Memory) h = tt
 
 pub added_none : (old : List Lit) → AddsCube old old [] (Ok tt)
 added_none old = (refl, sym (append_none old))

@@ -11,7 +11,7 @@ ghost use Rattle.dom_core.specs.Elimination.{is_lower as is_lower_literal, is_up
 ghost use Rattle.dom_core.specs.Adding.{AddsCube};
 ghost use Rattle.dom_rat.specs.Sums.{sums_of, all_sums};
 
-use dom_core::{Cube, is_lower, is_upper};
+use dom_core::{Cube, add_made, is_lower, is_upper};
 use lin_term::{Lit, Short, Wide, add_multiples, coefficient_at, gcd_of_words};
 use sqlite_items::Items;
 use std::alloc::Global;
@@ -49,13 +49,7 @@ fn add_if_upper(
     if !is_upper(lit, var) {
         return Ok(());
     }
-    match resolvent(alloc, var, lower, lit) {
-        Ok(sum) => match out.push(sum) {
-            Ok(()) => Ok(()),
-            Err(_) => Err(Short::Memory),
-        },
-        Err(fault) => Err(fault),
-    }
+    add_made(out, resolvent(alloc, var, lower, lit))
 }
 
 /// The sums of a lower literal with the upper ones, added to the others.
