@@ -1,16 +1,15 @@
 -- A constant term that was worked out has the value of the term.
-use Rattle.std.specs.Prelude.{List, ℕ, zero, suc, ◌+◌, ◌*◌, ◌/◌, ◌<◌, ◌≤◌, ◌≡◌, ℤ, pos, negsuc, ◌+ℤ◌, ◌*ℤ◌, ◌≤ℤ◌, ◌<ℤ◌, neg_ℤ, nat_abs, Bool, true, false, ◌&&◌, if◌then◌else◌, Option, Some, None, ⊤}
-use Prim.Native.Nat.{◌∣◌}
-use Rattle.std.proofs.Common.{arith, ap, ◌∙◌, sym, subst, refl, inl, inr, mul-le-mul_left}
+use Rattle.std.specs.Prelude.{List, ℕ, zero, suc, ◌*◌, ◌≤◌, ◌≡◌, ℤ, pos, negsuc, ◌+ℤ◌, ◌*ℤ◌, ◌<ℤ◌, neg_ℤ, nat_abs, Bool, true, false, ◌&&◌, if◌then◌else◌, Option, Some, None}
+use Rattle.std.proofs.Common.{arith, ap, ◌∙◌, sym, subst, refl}
 use Rattle.std.proofs.lemmas.Int.{ints}
 use lib.IntN.{*ℤ_comm}
 use Rattle.lin_term.specs.declared.row.Sort.{Sort}
 use Rattle.lin_term.specs.declared.row.Sort.TheVariants.{Rat, Int}
-use Rattle.lin_term.specs.Linear.{Value, IsValue, floor_div}
+use Rattle.lin_term.specs.Linear.{Value, IsValue}
 use Rattle.lin_term.specs.Literal.{gcd, or_one}
 use Rattle.lin_term.proofs.PrimitiveLemmas.{gcd_is, or_one_pos, or_one_divides, floor_exact, whole_div}
 use Rattle.lin_term.proofs.Dividing.{abs_product}
-use Rattle.lin_term.proofs.Ring.{ring, mul_assoc_ℤ, neg_mul_ℤ, cancel_right_ℤ, nonneg_across, zero_from_mul}
+use Rattle.lin_term.proofs.Ring.{ring, neg_mul_ℤ, cancel_right_ℤ, zero_from_mul}
 use Rattle.lin_truth.specs.declared.term.VarSort.{VarSort}
 use Rattle.lin_truth.specs.Value.{zero_value, one_value, v_neg, v_abs, v_plus, v_minus, v_times, over_num, v_over, v_div, v_mod, Yes}
 use Rattle.lin_truth.specs.Term.{Term, Terms, yes, no, amount, variable, negative, absolute, negated, divisible, minus, quotient_of, div_of, mod_of, less, at_most, greater, at_least, equal, xor_of, implies, ite, plus_of, times_of, and_of, or_of, forall_of, exists_of, no_term, term_and}

@@ -1,5 +1,5 @@
 -- Constant terms worked out within the cap: from left to right, two arguments at a time, each step in lowest terms.
-use Rattle.std.specs.Prelude.{ℕ, ◌/◌, nat_abs, nat_le, Bool, ◌&&◌, if◌then◌else◌, Option, Some, None, option_and_then}
+use Rattle.std.specs.Prelude.{◌/◌, nat_abs, nat_le, Bool, ◌&&◌, if◌then◌else◌, Option, Some, None, option_and_then}
 use Rattle.lin_term.specs.Form.{cap}
 use Rattle.lin_term.specs.Linear.{Value, floor_div}
 use Rattle.lin_term.specs.Literal.{gcd, or_one}

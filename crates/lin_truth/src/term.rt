@@ -10,7 +10,7 @@ pub enum VarSort {
 }
 
 /// A term or formula. `Var(i)` is the variable at place i from the outside: first the declared constants, then the
-/// bindings on the way down, in order. A number is in lowest terms and within the cap, its denominator 1 or more.
+/// bindings on the way down, in order. In a `Goal` a number is in lowest terms and within the cap, its denominator 1 or more.
 #[derive(Debug, Drop)]
 pub enum Term {
     True,
