@@ -1,7 +1,7 @@
-//! A stack of names. Each look-up and each change takes the same time, however many names there are: a hash table
-//! has the newest row of each name, and a row has the one that it hides.
+//! A stack of names. Each look-up and each change takes on average the same time, however many names there are: a hash
+//! table has the newest row of each name, and a row has the one that it hides.
 
-ghost use Rattle.std.specs.Prelude.{◌≡◌, ◌∷◌, ◌-◌, [], length, drop, OnOk, IfErr};
+ghost use Rattle.std.specs.Prelude.{◌≡◌, ◌∷◌, ◌-◌, [], length, drop, OnOk, OnErr, IfErr};
 ghost use Rattle.ss_names.specs.declared.ScriptFault.TheVariants.{Memory};
 ghost use Rattle.symbol_table.specs.Names.{looked_up};
 
@@ -81,10 +81,11 @@ impl<'a> Names<'a> {
         Some(self.rows[row as usize - 1].known)
     }
 
-    /// Adds a name, which hides those that are spelled alike.
+    /// Adds a name, which hides those that are spelled alike. After want of memory the names are as before.
     pub fn push(&mut self, name: &'a [u8], known: Known) -> Result<(), ScriptFault>
         ensures ok { OnOk result (self.new ≡ (name.entry.now, known) ∷ self.old) }
         ensures memory { IfErr result (λ e. e ≡ Memory) }
+        ensures refused { OnErr result (self.new ≡ self.old) }
     {
         let row = self.rows.len();
         if row >= 4_294_967_295 {
