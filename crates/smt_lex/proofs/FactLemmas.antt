@@ -81,7 +81,7 @@ run_fact z some begins =
 
 -- ---- tokens between two marks
 
-take_text : (text y : List ℕ) → take (length text) (text ++ y) ≡ text
+pub take_text : (text y : List ℕ) → take (length text) (text ++ y) ≡ text
 take_text [] y = refl
 take_text (b ∷ text) y = ap (λ (r : List ℕ). b ∷ r) (take_text text y)
 
@@ -160,7 +160,7 @@ marked_at q (suc n) (b ∷ z) some is =
     let h = marked_at q n z some is in
     record { bytes = ap (λ (r : List ℕ). b ∷ r) h.bytes; len_is = ap suc h.len_is }
 
-abbrev no_bar : ℕ → Bool
+abbrev pub no_bar : ℕ → Bool
 no_bar b = not (b == 124 || b == 92)
 
 quoted_fact : (z : List ℕ) → Facts (quoted_at (124 ∷ z)) (124 ∷ z)

@@ -48,6 +48,7 @@ more_gap g p z (Err f ∷ ts) blank (gap, rest, refused, none) = (
     bytes = ap (λ (r : List ℕ). g ++ r) refused.bytes ∙ sym (append_assoc g gap rest);
     blank = blanks-append false g gap false blank ∙ refused.blank;
     some = refused.some;
+    ends = refused.ends;
     none = refused.none;
     fault = subst (λ (q : Place). f ≡ fault.Bad kind.Token q.line q.column) (sym (past-append p g gap)) refused.fault;
   },

@@ -12,6 +12,7 @@ use Rattle.smt_lex.specs.Tokens.{joined, tokens_from, tokens_at, tokens}
 use Rattle.smt_lex.specs.Spelling.{spelled, IsToken, IsOver, Reads, AreTokensOf}
 use Rattle.smt_lex.proofs.GapLemmas.{more_gap, not_end, Ends, comment_ends, tokens_from_drop, tokens_from_line}
 use Rattle.smt_lex.proofs.FactLemmas.{Facts, facts}
+use Rattle.smt_lex.proofs.RefusedLemmas.{no_gap, no_token}
 
 -- the law behind any number of bytes of a text
 abbrev ReadsOn : List ℕ → Type 0
@@ -59,7 +60,7 @@ at_front p b z (Comment len) is f h =
     rw (long, f.0) (comment_next p z (comment_ends z) h)
 at_front p b z (Word k len) is f h = token_next k len (take len (b ∷ z)) p b z f.0 f.1 f.2 f.3 h
 at_front p b z (Enclosed k len) is f h = token_next k len (take (len - 2) z) p b z (omega (arith, f.0)) f.1 f.2 f.3 h
-at_front p b z Bad is f h = ([], b ∷ z, record { bytes = refl; blank = refl; some = omega arith; none = is; fault = refl }, refl)
+at_front p b z Bad is f h = ([], b ∷ z, record { bytes = refl; blank = refl; some = omega arith; ends = no_gap b z is; none = no_token b z is; fault = refl }, refl)
 
 all : (z : List ℕ) → ReadsOn z
 all [] zero q = refl

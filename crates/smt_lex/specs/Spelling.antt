@@ -1,14 +1,12 @@
 -- How tokens are spelled, and what stands between them. (SMT-LIB 2.6, section 3.1.)
-use Rattle.std.specs.Prelude.{◌≡◌, ◌<◌, ℕ, Bool, true, false, not, ◌||◌, ◌&&◌, ◌==◌, if◌then◌else◌, List, [], ◌∷◌, ◌++◌, length, Option, Some, None, IsSome, slice_index, Ok, Err}
+use Rattle.std.specs.Prelude.{◌≡◌, ◌<◌, ℕ, Bool, true, false, not, ◌||◌, ◌&&◌, ◌==◌, if◌then◌else◌, List, [], ◌∷◌, ◌++◌, length, take, Option, Some, None, IsSome, slice_index, Ok, Err}
 use Rattle.std.specs.List.{list_all, prefix_len}
 use Rattle.ss_names.specs.declared.fault.FaultKind.TheVariants as kind
 use Rattle.ss_names.specs.declared.fault.ScriptFault.{ScriptFault}
 use Rattle.ss_names.specs.declared.fault.ScriptFault.TheVariants as fault
 use Rattle.smt_lex.specs.declared.token.TokenKind.{TokenKind}
 use Rattle.smt_lex.specs.declared.token.TokenKind.TheVariants.{Left, Right, Text, Quoted}
-use Rattle.smt_lex.specs.declared.piece.Piece.TheVariants as piece
 use Rattle.smt_lex.specs.Run.{is_blank, is_of_run, kind_of}
-use Rattle.smt_lex.specs.Piece.{piece_at}
 use Rattle.smt_lex.specs.Place.{Place, place, past, start}
 use Rattle.smt_lex.specs.Lexeme.{Lexeme, Found}
 
@@ -55,12 +53,17 @@ pub record IsNext (p : Place) (z gap : List ℕ) (t : Lexeme) (rest : List ℕ) 
   pub token : IsToken t.kind t.text
   pub over : IsOver t.kind rest
 
--- behind such a gap stands what is no token, and the fault is at its first byte
+-- no token stands at the front of these bytes, whatever its kind and text
+abbrev pub IsNoToken : List ℕ → Type 0
+IsNoToken z = (k : TokenKind) (text rest : List ℕ) → z ≡ spelled k text ++ rest → IsToken k text → IsOver k rest → ⊥
+
+-- behind such a gap, which goes no further, stands what is no token, and the fault is at its first byte
 pub record IsRefused (p : Place) (z gap rest : List ℕ) (f : ScriptFault) : Type 0 where
   pub bytes : z ≡ gap ++ rest
   pub blank : blanks false gap ≡ Some false
   pub some : 0 < length rest
-  pub none : piece_at rest ≡ piece.Bad
+  pub ends : blanks false (take 1 rest) ≡ None
+  pub none : IsNoToken rest
   pub fault : f ≡ fault.Bad kind.Token (past p gap).line (past p gap).column
 
 -- the text that begins at this place is spelled by these tokens, and by the fault behind them, which is the last
