@@ -4,7 +4,7 @@ use Rattle.ss_shelf.specs.declared.outside.ShelfFault.{ShelfFault}
 use Rattle.std.proofs.lemmas.Slice.Eq.{bytes_eq-Decides}
 use Rattle.ss_shelf.specs.declared.outside.CallKind.{CallKind}
 use Rattle.ss_shelf.specs.declared.outside.CallKind.TheVariants.{Fetch, Store}
-use Rattle.ss_shelf.specs.declared.outside.ShelfFault.TheVariants.{Failed, Memory}
+use Rattle.ss_shelf.specs.declared.outside.ShelfFault.TheVariants.{Failed}
 use Rattle.ss_shelf.specs.declared.failures.FailedCall.{FailedCall}
 use Rattle.ss_shelf.specs.Calls.{one, count_of, same_kind}
 use Rattle.ss_shelf.specs.Outside.{Counts, Counted, plus_counts}
@@ -37,14 +37,6 @@ counted_more calls now call kind name hnow hk hn = subst (λ (l : List FailedCal
   rose = λ h. let e = count_of-append calls call kind name in let o = one_self call kind name hk hn in omega (arith, e, o);
   kept = λ h. absurd (h refl);
   others = λ k n h. let e = count_of-append calls call k n in let o = one_other call k n (λ same other. h (same ∙ hk) (other ∙ hn)) in omega (arith, e, o);
-})
-
-pub counted_none : (calls now : List FailedCall) → (kind : CallKind) → (name : List ℕ) → now ≡ calls →
-    Counted kind name (count_of calls) (count_of now) (Err Memory)
-counted_none calls now kind name same = subst (λ (l : List FailedCall). Counted kind name (count_of calls) (count_of l) (Err Memory)) (sym same) (record {
-  rose = λ h. absurd (cc);
-  kept = λ h. refl;
-  others = λ k n h. refl;
 })
 
 pub plus_left : (kind : CallKind) → (name : List ℕ) → (before now own : Counts) → (result : Result (Unit {0}) ShelfFault) →

@@ -1,6 +1,6 @@
 //! The trusted edge: files of the system and standard output.
 
-ghost use Rattle.std.specs.Prelude.{◌≡◌, ◌++◌, ℕ, List, None};
+ghost use Rattle.std.specs.Prelude.{◌≡◌, ◌++◌, [], ℕ, List, None};
 ghost use Rattle.ss_shelf.specs.Calls.{count_of};
 
 use crate::failures::Failures;
@@ -18,7 +18,10 @@ pub struct StdSink<W: Write + Drop> {
 
 impl<W: Write + Drop> StdSink<W> {
     /// Output to this writer.
-    pub fn new(writer: W) -> StdSink<W> {
+    pub fn new(writer: W) -> StdSink<W>
+        ensures writer { result.writer ≡ writer }
+        ensures faults { result.faults ≡ 0 }
+    {
         StdSink { writer, faults: 0 }
     }
 }
@@ -81,7 +84,9 @@ pub struct FileShelf<'a, R: Files> {
 
 impl<'a, R: Files> FileShelf<'a, R> {
     /// The files of this system.
-    pub fn new(alloc: Global, files: &'a R) -> FileShelf<'a, R> {
+    pub fn new(alloc: Global, files: &'a R) -> FileShelf<'a, R>
+        ensures { result.failures.calls.items ≡ [] }
+    {
         FileShelf {
             files,
             alloc,

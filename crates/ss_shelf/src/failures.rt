@@ -1,11 +1,12 @@
 //! The calls of a shelf that failed, as its counts.
 
-ghost use Rattle.std.specs.Prelude.{◌≡◌, ◌++◌, ◌∷◌, [], OnOk, OnErr, IfOk, Err, string_bytes};
+ghost use Rattle.std.specs.Prelude.{◌≡◌, ◌<◌, ◌++◌, ◌∷◌, [], OnOk, IfOk, Err, string_bytes, vec_len, vec_capacity};
 ghost use Rattle.ss_shelf.specs.Calls.{count_of};
 ghost use Rattle.ss_shelf.specs.Outside.{Counted};
+ghost use Rattle.ss_shelf.specs.declared.outside.ShelfFault.TheVariants.{Failed};
 
 use crate::outside::{CallKind, ShelfFault};
-use std::alloc::{AllocError, AllocFailed, Global};
+use std::alloc::{AllocError, Global};
 
 /// A call that failed.
 #[derive(Debug, Drop)]
@@ -39,28 +40,22 @@ impl Failures {
     ) -> Result<FailedCall, AllocError>
         ensures same { self.new.calls.items ≡ self.old.calls.items }
         ensures entry { IfOk result (λ call. (call.kind ≡ kind) × (string_bytes call.name ≡ name.now)) }
+        ensures room { OnOk result (vec_len self.new.calls < vec_capacity self.new.calls) }
     {
         let name = String::from_str(alloc, name)?;
         self.calls.reserve(1)?;
         Ok(FailedCall { kind, name })
     }
 
-    /// Adds the entry at the end.
-    pub fn record(&mut self, call: FailedCall) -> Result<(), AllocFailed<FailedCall>>
-        ensures raised { OnOk result (self.new.calls.items ≡ self.old.calls.items ++ call ∷ []) }
-        ensures refused { OnErr result (self.new.calls.items ≡ self.old.calls.items) }
-    {
-        self.calls.push(call)
-    }
-
-    /// Notes the failed call; where there is no room it is want of memory.
-    #[tactic(auto, using(crate::proofs::Counting::counted_more, crate::proofs::Counting::counted_none))]
+    /// Notes the failed call, for which room was taken before.
+    #[tactic(auto, using(crate::proofs::Counting::counted_more))]
     pub fn fail(&mut self, call: FailedCall) -> ShelfFault
-        ensures { Counted call.kind (string_bytes call.name) (count_of self.old.calls.items) (count_of self.new.calls.items) (Err result) }
+        requires room { vec_len self.old.calls < vec_capacity self.old.calls }
+        ensures failed { result ≡ Failed }
+        ensures noted { self.new.calls.items ≡ self.old.calls.items ++ call ∷ [] }
+        ensures counted { Counted call.kind (string_bytes call.name) (count_of self.old.calls.items) (count_of self.new.calls.items) (Err Failed) }
     {
-        if self.record(call).is_err() {
-            return ShelfFault::Memory;
-        }
+        self.calls.push_reserved(call);
         ShelfFault::Failed
     }
 }

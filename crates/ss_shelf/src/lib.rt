@@ -6,6 +6,7 @@ mod failing;
 mod failures;
 mod memory;
 mod outside;
+mod turns;
 
 pub use edge::{FileShelf, StdSink};
 pub use failing::{FailingShelf, FailingSink};

@@ -1,10 +1,10 @@
 //! A shelf and a sink in memory, which tell all that they hold.
 
-ghost use Rattle.std.specs.Prelude.{◌≡◌, ℕ, List, [], None, Some, Err, OnOk, OnErr};
+ghost use Rattle.std.specs.Prelude.{◌≡◌, ◌≢◌, ℕ, List, [], None, Some, Err, OnOk, OnErr};
 ghost use Rattle.ss_shelf.specs.Memory.{files_of};
-ghost use Rattle.ss_shelf.specs.Outside.{Counted, Fetches, Stored};
+ghost use Rattle.ss_shelf.specs.Outside.{Counted, Fetches, Stored, KeepsOthers};
 ghost use Rattle.ss_shelf.specs.Calls.{count_of};
-ghost use Rattle.ss_shelf.specs.declared.outside.CallKind.TheVariants.{Fetch};
+ghost use Rattle.ss_shelf.specs.declared.outside.CallKind.TheVariants.{Fetch, Store};
 
 use crate::failures::Failures;
 use crate::outside::{CallKind, Shelf, ShelfFault, Sink, SinkFault};
@@ -32,28 +32,8 @@ impl MemoryShelf {
         }
     }
 
-    /// Appends the file's bytes. It fails exactly where there is no such file.
-    pub fn read(&mut self, name: &str, into: &mut Vec<u8>) -> Result<(), ShelfFault>
-        ensures same { files_of self.new ≡ files_of self.old }
-        ensures bytes { OnOk result (Fetches (Some (files_of self.old)) name.now into.old.items into.new.items) }
-        ensures refused { OnErr result (into.new.items ≡ into.old.items) }
-        ensures missing { result ≡ Err ShelfFault.Failed → files_of self.old name.now ≡ None }
-        ensures counts { Counted Fetch name.now (count_of self.old.failures.calls.items) (count_of self.new.failures.calls.items) result }
-    {
-        let Ok(entry) = self.failures.prepare(self.alloc, CallKind::Fetch, name) else {
-            return Err(ShelfFault::Memory);
-        };
-        match self.files.get(name) {
-            Some(bytes) => match into.extend_from_slice(bytes.as_slice()) {
-                Ok(()) => Ok(()),
-                Err(_) => Err(ShelfFault::Memory),
-            },
-            None => Err(self.failures.fail(entry)),
-        }
-    }
-
-    /// Makes the file hold these bytes. It refuses only for memory.
-    pub fn put(&mut self, name: &str, bytes: &[u8]) -> Result<(), AllocError>
+    // Makes the file hold these bytes.
+    fn put(&mut self, name: &str, bytes: &[u8]) -> Result<(), AllocError>
         ensures stored { OnOk result (Stored name.now bytes.now (files_of self.old) (files_of self.new)) }
         ensures refused { OnErr result (files_of self.new ≡ files_of self.old) }
         ensures calls { self.new.failures.calls.items ≡ self.old.failures.calls.items }
@@ -76,11 +56,34 @@ impl Shelf for MemoryShelf {
 
     ghost faults = { λ s. count_of s.failures.calls.items };
 
-    fn fetch(&mut self, name: &str, into: &mut Vec<u8>) -> Result<(), ShelfFault> {
-        self.read(name, into)
+    /// Appends the file's bytes. It fails exactly where there is no such file.
+    fn fetch(&mut self, name: &str, into: &mut Vec<u8>) -> Result<(), ShelfFault>
+        ensures same { Some (files_of self.new) ≡ Some (files_of self.old) }
+        ensures bytes { OnOk result (Fetches (Some (files_of self.old)) name.now into.old.items into.new.items) }
+        ensures refused { OnErr result (into.new.items ≡ into.old.items) }
+        ensures counts { Counted Fetch name.now (count_of self.old.failures.calls.items) (count_of self.new.failures.calls.items) result }
+        ensures missing { result ≡ Err ShelfFault.Failed → files_of self.old name.now ≡ None }
+    {
+        let Ok(entry) = self.failures.prepare(self.alloc, CallKind::Fetch, name) else {
+            return Err(ShelfFault::Memory);
+        };
+        match self.files.get(name) {
+            Some(bytes) => match into.extend_from_slice(bytes.as_slice()) {
+                Ok(()) => Ok(()),
+                Err(_) => Err(ShelfFault::Memory),
+            },
+            None => Err(self.failures.fail(entry)),
+        }
     }
 
-    fn store(&mut self, name: &str, bytes: &[u8]) -> Result<(), ShelfFault> {
+    /// Makes the file hold these bytes. It refuses only for memory.
+    fn store(&mut self, name: &str, bytes: &[u8]) -> Result<(), ShelfFault>
+        ensures stored { OnOk result (Stored name.now bytes.now (files_of self.old) (files_of self.new)) }
+        ensures failed { result ≡ Err ShelfFault.Failed → KeepsOthers (Some (files_of self.old)) (Some (files_of self.new)) name.now }
+        ensures memory { result ≡ Err ShelfFault.Memory → Some (files_of self.new) ≡ Some (files_of self.old) }
+        ensures counts { Counted Store name.now (count_of self.old.failures.calls.items) (count_of self.new.failures.calls.items) result }
+        ensures never { result ≢ Err ShelfFault.Failed }
+    {
         match self.put(name, bytes) {
             Ok(()) => Ok(()),
             Err(_) => Err(ShelfFault::Memory),

@@ -50,6 +50,7 @@ fn failing_calls_fail(rt: HostRuntime) -> Result<(), Fail> {
     assert!(rt; fetched(&rt, &mut shelf, "a").is_ok());
     assert!(rt; matches!(fetched(&rt, &mut shelf, "a"), Err(ShelfFault::Failed)));
     assert!(rt; fetched(&rt, &mut shelf, "a").is_ok());
+    assert!(rt; shelf.store("a", b"two").is_ok());
     let numbers = vec![in rt.alloc(); 0u64].map_err(|_| "numbers")?;
     let mut sink = FailingSink::new(MemorySink::new(rt.alloc()), numbers);
     assert!(rt; matches!(sink.write(b"x"), Err(SinkFault::Failed)));
