@@ -140,7 +140,7 @@ too_large t n e lt le = absurd (omega (arith, e))
 
 -- ---- the worth of a term
 
-no_free : (n : ℕ) (b : Bool) → min 1 n ≡ min 1 (if b then 0 else 1) → (n == 0) ≡ b
+pub no_free : (n : ℕ) (b : Bool) → min 1 n ≡ min 1 (if b then 0 else 1) → (n == 0) ≡ b
 no_free zero true e = refl
 no_free zero false e = absurd (omega (arith, e))
 no_free (suc n) true e = absurd (omega (arith, e))

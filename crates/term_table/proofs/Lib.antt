@@ -17,3 +17,4 @@ pub mod Multiples
 pub mod KnownLemmas
 pub mod Knowing
 pub mod PassedOn
+pub mod Steady

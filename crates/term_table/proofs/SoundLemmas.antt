@@ -164,7 +164,7 @@ two_formed s scope binary.Implies a b frame vs fits both fit le =
 arithmetic_fixed : (op : Binary) (x y z w : Term) → Yes (is_constant x && is_constant y) → (Yes (is_constant x) → x ≡ z) → (Yes (is_constant y) → y ≡ w) → two_of op x y ≡ two_of op z w
 arithmetic_fixed op x y z w c p q = let both = both_yes (is_constant x) (is_constant y) c in λ k. two_of op (p both.0 k) (q both.1 k)
 
-two_fixed : (op : Binary) (x y z w : Term) → Yes (is_constant (two_of op x y)) → (Yes (is_constant x) → x ≡ z) → (Yes (is_constant y) → y ≡ w) → two_of op x y ≡ two_of op z w
+pub two_fixed : (op : Binary) (x y z w : Term) → Yes (is_constant (two_of op x y)) → (Yes (is_constant x) → x ≡ z) → (Yes (is_constant y) → y ≡ w) → two_of op x y ≡ two_of op z w
 two_fixed binary.Minus x y z w c p q = arithmetic_fixed binary.Minus x y z w c p q
 two_fixed binary.Quotient x y z w c p q = arithmetic_fixed binary.Quotient x y z w c p q
 two_fixed binary.Div x y z w c p q = arithmetic_fixed binary.Div x y z w c p q

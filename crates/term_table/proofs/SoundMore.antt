@@ -96,7 +96,7 @@ binder_kept : (q : Quantifier) (s : Sort) (us : List VarSort) (t : Term) (vs : L
 binder_kept quantifier.Forall s us t vs part le = part (omega arith)
 binder_kept quantifier.Exists s us t vs part le = part (omega arith)
 
-binder_free : (q : Quantifier) (us : List VarSort) (t : Term) → Yes (is_constant (binder_of q us t)) → ⊥
+pub binder_free : (q : Quantifier) (us : List VarSort) (t : Term) → Yes (is_constant (binder_of q us t)) → ⊥
 binder_free quantifier.Forall us t c = c
 binder_free quantifier.Exists us t c = c
 

@@ -5,8 +5,8 @@ use Rattle.term_table.proofs.Amounts.{below-at}
 use Rattle.term_table.proofs.PassedOn.{stand-push}
 use Rattle.term_table.proofs.passing.arguments_of.Goals as goal
 
-pub argument_of-requires-clause-body : goal.argument_of-requires-clause-body
-argument_of-requires-clause-body c = below-at _ c.args.parts.now c.loop-part.part-index c.requires.parts (omega (arith, c.loop-part-test.true))
+pub stand_in-requires-clause-body : goal.stand_in-requires-clause-body
+stand_in-requires-clause-body c = below-at _ c.args.parts.now c.loop-part.part-index c.requires.parts (omega (arith, c.loop-part-test.true))
 
 pub loop-part-preserved : goal.loop-part-preserved
 loop-part-preserved c =

@@ -12,6 +12,6 @@ returns-in-Use c =
     let es = c.args.entries.now in
     let ms = meanings (nodes_of es) in
     let body = c.in-Use.body in
-    subst (λ (x : Node). IfSome c.argument_of.result (λ i. IsAt (nodes_of es) i (meaning ms x))) (sym c.in-Use.is)
-    (if_some-at c.argument_of.result es (used (at ms body) (map (at ms) c.in-Use.args))
-    (subst (λ (is : List ℕ). IfSome c.argument_of.result (λ i. (i < length es) × (at ms i ≡ used (at ms body) (map (at ms) is)))) c.as_slice.ensures c.argument_of.ensures))
+    subst (λ (x : Node). IfSome c.stand_in.result (λ i. IsAt (nodes_of es) i (meaning ms x))) (sym c.in-Use.is)
+    (if_some-at c.stand_in.result es (used (at ms body) (map (at ms) c.in-Use.args))
+    (subst (λ (is : List ℕ). IfSome c.stand_in.result (λ i. (i < length es) × (at ms i ≡ used (at ms body) (map (at ms) is)))) c.as_slice.ensures c.stand_in.ensures))
