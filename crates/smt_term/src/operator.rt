@@ -85,235 +85,48 @@ pub struct Operator {
     pub linear: Linear,
 }
 
+// A line: an operator's word, its logics, the least and the greatest number of its arguments, their sorts, the sort of the
+// application, its shape, and which arguments have to be constant terms.
 macro_rules! line {
-    ($within:expr, $least:expr, $most:expr, $takes:expr, $gives:expr, $shape:expr, $linear:expr) => {
+    ($word:literal: $within:ident, $least:expr, $most:expr, $takes:ident, $gives:ident, $shape:expr, $linear:ident) => {
         Operator {
-            within: $within,
+            within: Within::$within,
             least: $least,
             most: $most,
-            takes: $takes,
-            gives: $gives,
+            takes: Takes::$takes,
+            gives: Gives::$gives,
             shape: $shape,
-            linear: $linear,
+            linear: Linear::$linear,
         }
     };
 }
 
-// The line of each word of the table of operators, in its order.
+// The line of each word of the table of operators, in its order. `true` and `false` take no number of arguments.
 fn line_of(row: usize) -> Option<Operator>
     ensures { result ≡ slice_get spec.lines row }
 {
     let lines = [
-        // `true`
-        line!(
-            Within::All,
-            1,
-            Some(0),
-            Takes::Formulas,
-            Gives::Formula,
-            Shape::Truth(true),
-            Linear::Free
-        ),
-        // `false`
-        line!(
-            Within::All,
-            1,
-            Some(0),
-            Takes::Formulas,
-            Gives::Formula,
-            Shape::Truth(false),
-            Linear::Free
-        ),
-        // `not`
-        line!(
-            Within::All,
-            1,
-            Some(1),
-            Takes::Formulas,
-            Gives::Formula,
-            Shape::One(Unary::Not),
-            Linear::Free
-        ),
-        // `and`
-        line!(
-            Within::All,
-            1,
-            None,
-            Takes::Formulas,
-            Gives::Formula,
-            Shape::Several(Variadic::And),
-            Linear::Free
-        ),
-        // `or`
-        line!(
-            Within::All,
-            1,
-            None,
-            Takes::Formulas,
-            Gives::Formula,
-            Shape::Several(Variadic::Or),
-            Linear::Free
-        ),
-        // `xor`
-        line!(
-            Within::All,
-            2,
-            None,
-            Takes::Formulas,
-            Gives::Formula,
-            Shape::Left(Binary::Xor),
-            Linear::Free
-        ),
-        // `=>`
-        line!(
-            Within::All,
-            2,
-            None,
-            Takes::Formulas,
-            Gives::Formula,
-            Shape::Right(Binary::Implies),
-            Linear::Free
-        ),
-        // `=`
-        line!(
-            Within::All,
-            2,
-            None,
-            Takes::Alike,
-            Gives::Formula,
-            Shape::Chain(Binary::Equal),
-            Linear::Free
-        ),
-        // `distinct`
-        line!(
-            Within::All,
-            2,
-            None,
-            Takes::Alike,
-            Gives::Formula,
-            Shape::Pairwise,
-            Linear::Free
-        ),
-        // `ite`
-        line!(
-            Within::All,
-            3,
-            Some(3),
-            Takes::Choice,
-            Gives::Last,
-            Shape::Choice,
-            Linear::Free
-        ),
-        // `<`
-        line!(
-            Within::All,
-            2,
-            None,
-            Takes::Numbers,
-            Gives::Formula,
-            Shape::Chain(Binary::Less),
-            Linear::Free
-        ),
-        // `<=`
-        line!(
-            Within::All,
-            2,
-            None,
-            Takes::Numbers,
-            Gives::Formula,
-            Shape::Chain(Binary::AtMost),
-            Linear::Free
-        ),
-        // `>`
-        line!(
-            Within::All,
-            2,
-            None,
-            Takes::Numbers,
-            Gives::Formula,
-            Shape::Chain(Binary::Greater),
-            Linear::Free
-        ),
-        // `>=`
-        line!(
-            Within::All,
-            2,
-            None,
-            Takes::Numbers,
-            Gives::Formula,
-            Shape::Chain(Binary::AtLeast),
-            Linear::Free
-        ),
-        // `+`
-        line!(
-            Within::All,
-            2,
-            None,
-            Takes::Numbers,
-            Gives::Number,
-            Shape::Several(Variadic::Plus),
-            Linear::Free
-        ),
-        // `-`
-        line!(
-            Within::All,
-            1,
-            None,
-            Takes::Numbers,
-            Gives::Number,
-            Shape::Difference,
-            Linear::Free
-        ),
-        // `*`
-        line!(
-            Within::All,
-            2,
-            None,
-            Takes::Numbers,
-            Gives::Number,
-            Shape::Several(Variadic::Times),
-            Linear::Factors
-        ),
-        // `/`
-        line!(
-            Within::Reals,
-            2,
-            None,
-            Takes::Numbers,
-            Gives::Number,
-            Shape::Left(Binary::Quotient),
-            Linear::Divisors
-        ),
-        // `div`
-        line!(
-            Within::Integers,
-            2,
-            None,
-            Takes::Numbers,
-            Gives::Number,
-            Shape::Left(Binary::Div),
-            Linear::Divisors
-        ),
-        // `mod`
-        line!(
-            Within::Integers,
-            2,
-            Some(2),
-            Takes::Numbers,
-            Gives::Number,
-            Shape::Left(Binary::Mod),
-            Linear::Divisors
-        ),
-        // `abs`
-        line!(
-            Within::Integers,
-            1,
-            Some(1),
-            Takes::Numbers,
-            Gives::Number,
-            Shape::One(Unary::Abs),
-            Linear::Free
-        ),
+        line!("true": All, 1, Some(0), Formulas, Formula, Shape::Truth(true), Free),
+        line!("false": All, 1, Some(0), Formulas, Formula, Shape::Truth(false), Free),
+        line!("not": All, 1, Some(1), Formulas, Formula, Shape::One(Unary::Not), Free),
+        line!("and": All, 1, None, Formulas, Formula, Shape::Several(Variadic::And), Free),
+        line!("or": All, 1, None, Formulas, Formula, Shape::Several(Variadic::Or), Free),
+        line!("xor": All, 2, None, Formulas, Formula, Shape::Left(Binary::Xor), Free),
+        line!("=>": All, 2, None, Formulas, Formula, Shape::Right(Binary::Implies), Free),
+        line!("=": All, 2, None, Alike, Formula, Shape::Chain(Binary::Equal), Free),
+        line!("distinct": All, 2, None, Alike, Formula, Shape::Pairwise, Free),
+        line!("ite": All, 3, Some(3), Choice, Last, Shape::Choice, Free),
+        line!("<": All, 2, None, Numbers, Formula, Shape::Chain(Binary::Less), Free),
+        line!("<=": All, 2, None, Numbers, Formula, Shape::Chain(Binary::AtMost), Free),
+        line!(">": All, 2, None, Numbers, Formula, Shape::Chain(Binary::Greater), Free),
+        line!(">=": All, 2, None, Numbers, Formula, Shape::Chain(Binary::AtLeast), Free),
+        line!("+": All, 2, None, Numbers, Number, Shape::Several(Variadic::Plus), Free),
+        line!("-": All, 1, None, Numbers, Number, Shape::Difference, Free),
+        line!("*": All, 2, None, Numbers, Number, Shape::Several(Variadic::Times), Factors),
+        line!("/": Reals, 2, None, Numbers, Number, Shape::Left(Binary::Quotient), Divisors),
+        line!("div": Integers, 2, None, Numbers, Number, Shape::Left(Binary::Div), Divisors),
+        line!("mod": Integers, 2, Some(2), Numbers, Number, Shape::Left(Binary::Mod), Divisors),
+        line!("abs": Integers, 1, Some(1), Numbers, Number, Shape::One(Unary::Abs), Free),
     ];
     match lines.get(row) {
         None => None,
