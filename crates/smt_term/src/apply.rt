@@ -14,6 +14,7 @@ ghost use Rattle.smt_term.specs.View.{typed_at, all_at, sorts_seen, worths_at, A
 
 use crate::making::{added, built, nodes_of};
 use crate::operator::{Gives, Linear, Operator, Takes};
+use crate::part::bad;
 use crate::seen::{Seen, is_same};
 use lin_truth::VarSort;
 use ss_names::{FaultKind, ScriptFault};
@@ -166,18 +167,10 @@ fn divisors_fit(worths: &[Worth], line: u64, column: u64) -> Result<(), ScriptFa
         [_, rest @ ..] => rest,
     };
     if some_zero(divisors) {
-        return Err(ScriptFault::Bad {
-            kind: FaultKind::Divisor,
-            line,
-            column,
-        });
+        return Err(bad(FaultKind::Divisor, line, column));
     }
     if some_free(divisors) {
-        return Err(ScriptFault::Bad {
-            kind: FaultKind::Linear,
-            line,
-            column,
-        });
+        return Err(bad(FaultKind::Linear, line, column));
     }
     Ok(())
 }
@@ -191,11 +184,7 @@ fn linear_fits(linear: Linear, worths: &[Worth], line: u64, column: u64) -> Resu
             if one_free(worths) {
                 Ok(())
             } else {
-                Err(ScriptFault::Bad {
-                    kind: FaultKind::Linear,
-                    line,
-                    column,
-                })
+                Err(bad(FaultKind::Linear, line, column))
             }
         }
         Linear::Divisors => divisors_fit(worths, line, column),
@@ -216,11 +205,7 @@ pub fn checked(
     ensures { GivesOne table.now (spec.checked (place line column) (typed_at (meanings table.now) seen)) result table.now }
 {
     if is_wide(worth) {
-        return Err(ScriptFault::Bad {
-            kind: FaultKind::Number,
-            line,
-            column,
-        });
+        return Err(bad(FaultKind::Number, line, column));
     }
     Ok(seen)
 }
@@ -241,18 +226,10 @@ pub fn application(
     ensures { GivesOne table.old (spec.application op (place line column) (all_at (meanings table.old) args.now)) result table.new }
 {
     if !arity_fits(op, args.len()) {
-        return Err(ScriptFault::Bad {
-            kind: FaultKind::Arity,
-            line,
-            column,
-        });
+        return Err(bad(FaultKind::Arity, line, column));
     }
     if !sorts_fit(op.takes, args) {
-        return Err(ScriptFault::Bad {
-            kind: FaultKind::Sort,
-            line,
-            column,
-        });
+        return Err(bad(FaultKind::Sort, line, column));
     }
     let _ = match linear_fits(op.linear, worths, line, column) {
         Ok(fits) => fits,
@@ -304,25 +281,13 @@ pub fn expansion(
     ensures { GivesOne table.old (spec.expansion (record { params = params.now; meaning = typed_at (meanings table.old) body }) (place line column) (all_at (meanings table.old) args.now)) result table.new }
 {
     if params.is_empty() {
-        return Err(ScriptFault::Bad {
-            kind: FaultKind::Arity,
-            line,
-            column,
-        });
+        return Err(bad(FaultKind::Arity, line, column));
     }
     if args.len() != params.len() {
-        return Err(ScriptFault::Bad {
-            kind: FaultKind::Arity,
-            line,
-            column,
-        });
+        return Err(bad(FaultKind::Arity, line, column));
     }
     if !have_sorts(args, params) {
-        return Err(ScriptFault::Bad {
-            kind: FaultKind::Sort,
-            line,
-            column,
-        });
+        return Err(bad(FaultKind::Sort, line, column));
     }
     let parts = nodes_of(alloc, args)?;
     let used = Node::Use {
@@ -352,25 +317,13 @@ pub fn divided(
     ensures { GivesOne table.old (spec.divided modulus (place line column) (all_at (meanings table.old) args.now)) result table.new }
 {
     if args.len() != 1 {
-        return Err(ScriptFault::Bad {
-            kind: FaultKind::Arity,
-            line,
-            column,
-        });
+        return Err(bad(FaultKind::Arity, line, column));
     }
     if !is_same(args[0].sort, VarSort::Number) {
-        return Err(ScriptFault::Bad {
-            kind: FaultKind::Sort,
-            line,
-            column,
-        });
+        return Err(bad(FaultKind::Sort, line, column));
     }
     if modulus == 0 {
-        return Err(ScriptFault::Bad {
-            kind: FaultKind::Divisor,
-            line,
-            column,
-        });
+        return Err(bad(FaultKind::Divisor, line, column));
     }
     let node = match added(table, Node::One(Unary::Divisible(modulus), args[0].node)) {
         Ok(node) => node,

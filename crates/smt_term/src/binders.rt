@@ -11,6 +11,7 @@ ghost use Rattle.smt_term.specs.Newest.{newest_first, sorts_bound};
 
 use crate::bindings::Binding;
 use crate::making::added;
+use crate::part::bad;
 use crate::seen::{Seen, is_same};
 use lin_truth::VarSort;
 use smt_tree::Expr;
@@ -58,11 +59,7 @@ pub fn quantified(
     ensures { GivesOne table.old (spec.quantified around quantifier (sorts_in_order (newest_first [] variables.now)) (place line column) (typed_at (meanings table.old) body)) result table.new }
 {
     if !is_same(body.sort, VarSort::Bool) {
-        return Err(ScriptFault::Bad {
-            kind: FaultKind::Sort,
-            line,
-            column,
-        });
+        return Err(bad(FaultKind::Sort, line, column));
     }
     let sorts = sorts_of(alloc, variables)?;
     let binder = Node::Binder {

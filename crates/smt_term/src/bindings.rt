@@ -9,7 +9,7 @@ ghost use Rattle.smt_term.specs.Word as words;
 ghost use Rattle.smt_term.specs.View.{part, part_seen};
 ghost use Rattle.smt_term.specs.Newest.{IsName, IsPair, IsBindings, IsSorted, pair_of, bindings_of};
 
-use crate::part::{Part, part_of};
+use crate::part::{Part, bad, part_of};
 use crate::seen::Seen;
 use crate::word::{is_free, is_symbol, sort_of};
 use lin_term::Sort;
@@ -51,25 +51,13 @@ pub fn new_name<'a>(
     ensures { IsName (words.new_name logic taken.now (part_seen part.entry)) result }
 {
     match part {
-        Part::Group(line, column, _) => Err(ScriptFault::Bad {
-            kind: FaultKind::Sort,
-            line,
-            column,
-        }),
+        Part::Group(line, column, _) => Err(bad(FaultKind::Sort, line, column)),
         Part::Token(token) => {
             if !is_symbol(&token) {
-                return Err(ScriptFault::Bad {
-                    kind: FaultKind::Sort,
-                    line: token.line,
-                    column: token.column,
-                });
+                return Err(bad(FaultKind::Sort, token.line, token.column));
             }
             if !is_free(logic, &token) || is_taken(taken, token.text) {
-                return Err(ScriptFault::Bad {
-                    kind: FaultKind::Symbol,
-                    line: token.line,
-                    column: token.column,
-                });
+                return Err(bad(FaultKind::Symbol, token.line, token.column));
             }
             Ok(token.text)
         }
@@ -85,18 +73,10 @@ pub fn pair_of<'e, 'a>(
     ensures { IsPair (pair_of logic taken.now (part item.now)) item.now result }
 {
     match part_of(item) {
-        Part::Token(token) => Err(ScriptFault::Bad {
-            kind: FaultKind::Sort,
-            line: token.line,
-            column: token.column,
-        }),
+        Part::Token(token) => Err(bad(FaultKind::Sort, token.line, token.column)),
         Part::Group(line, column, items) => {
             if items.len() != 2 {
-                return Err(ScriptFault::Bad {
-                    kind: FaultKind::Sort,
-                    line,
-                    column,
-                });
+                return Err(bad(FaultKind::Sort, line, column));
             }
             let name = match new_name(logic, taken, part_of(&items[0])) {
                 Ok(name) => name,
@@ -118,27 +98,15 @@ pub fn bindings_of<'e, 'a>(
 {
     let (first, body) = match args {
         [] => {
-            return Err(ScriptFault::Bad {
-                kind: FaultKind::Arity,
-                line,
-                column,
-            });
+            return Err(bad(FaultKind::Arity, line, column));
         }
         [first, body @ ..] => (first, body),
     };
     match part_of(first) {
-        Part::Token(token) => Err(ScriptFault::Bad {
-            kind: FaultKind::Sort,
-            line: token.line,
-            column: token.column,
-        }),
+        Part::Token(token) => Err(bad(FaultKind::Sort, token.line, token.column)),
         Part::Group(line, column, items) => {
             if items.is_empty() {
-                return Err(ScriptFault::Bad {
-                    kind: FaultKind::Sort,
-                    line,
-                    column,
-                });
+                return Err(bad(FaultKind::Sort, line, column));
             }
             Ok((items, body))
         }

@@ -8,7 +8,7 @@ ghost use Rattle.smt_term.specs.Terms as spec;
 ghost use Rattle.smt_term.specs.View.{IsRead, part_seen};
 
 use crate::number::numeral;
-use crate::part::{Part, part_of};
+use crate::part::{Part, bad, part_of};
 use crate::word::{is_reserved, is_symbol, is_word};
 use lin_term::Sort;
 use smt_lex::{Token, TokenKind};
@@ -20,18 +20,10 @@ fn index_value(part: Part<'_, '_>) -> Result<u64, ScriptFault>
     ensures { IsRead (spec.index_value (part_seen part.entry)) result }
 {
     match part {
-        Part::Group(line, column, _) => Err(ScriptFault::Bad {
-            kind: FaultKind::Sort,
-            line,
-            column,
-        }),
+        Part::Group(line, column, _) => Err(bad(FaultKind::Sort, line, column)),
         Part::Token(token) => match token.kind {
             TokenKind::Numeral => numeral(&token),
-            _ => Err(ScriptFault::Bad {
-                kind: FaultKind::Sort,
-                line: token.line,
-                column: token.column,
-            }),
+            _ => Err(bad(FaultKind::Sort, token.line, token.column)),
         },
     }
 }
@@ -49,25 +41,13 @@ fn divisible_index(logic: Sort, word: Part<'_, '_>, index: Part<'_, '_>) -> Resu
     ensures { IsRead (spec.divisible_index logic (part_seen word.entry) (part_seen index.entry)) result }
 {
     match word {
-        Part::Group(line, column, _) => Err(ScriptFault::Bad {
-            kind: FaultKind::Sort,
-            line,
-            column,
-        }),
+        Part::Group(line, column, _) => Err(bad(FaultKind::Sort, line, column)),
         Part::Token(token) => {
             if !is_symbol(&token) {
-                return Err(ScriptFault::Bad {
-                    kind: FaultKind::Sort,
-                    line: token.line,
-                    column: token.column,
-                });
+                return Err(bad(FaultKind::Sort, token.line, token.column));
             }
             if !is_divisible(logic, &token) {
-                return Err(ScriptFault::Bad {
-                    kind: FaultKind::Symbol,
-                    line: token.line,
-                    column: token.column,
-                });
+                return Err(bad(FaultKind::Symbol, token.line, token.column));
             }
             index_value(index)
         }
@@ -93,21 +73,13 @@ pub fn index_head(
     ensures { IsRead (spec.index_head logic (place line column) (all_seen items.now)) result }
 {
     if items.len() != 3 {
-        return Err(ScriptFault::Bad {
-            kind: FaultKind::Sort,
-            line,
-            column,
-        });
+        return Err(bad(FaultKind::Sort, line, column));
     }
     let mark = part_of(&items[0]);
     let word = part_of(&items[1]);
     let index = part_of(&items[2]);
     if !is_mark(mark) {
-        return Err(ScriptFault::Bad {
-            kind: FaultKind::Sort,
-            line,
-            column,
-        });
+        return Err(bad(FaultKind::Sort, line, column));
     }
     divisible_index(logic, word, index)
 }

@@ -11,6 +11,7 @@ ghost use Rattle.smt_lex.specs.Lexeme.{lexeme};
 ghost use Rattle.smt_term.specs.Numeral as spec;
 ghost use Rattle.smt_term.specs.View.{IsRead};
 
+use crate::part::bad;
 use smt_lex::Token;
 use ss_names::{FaultKind, ScriptFault};
 
@@ -34,11 +35,7 @@ pub fn numeral(token: &Token<'_>) -> Result<u64, ScriptFault>
 {
     match number_within(token.text) {
         Some(n) => Ok(n),
-        None => Err(ScriptFault::Bad {
-            kind: FaultKind::Number,
-            line: token.line,
-            column: token.column,
-        }),
+        None => Err(bad(FaultKind::Number, token.line, token.column)),
     }
 }
 
@@ -148,26 +145,14 @@ pub fn decimal(token: &Token<'_>) -> Result<(i64, i64), ScriptFault>
     let whole = whole_digits(token.text);
     let fraction = fraction_digits(token.text);
     if whole.len() > 38 {
-        return Err(ScriptFault::Bad {
-            kind: FaultKind::Number,
-            line: token.line,
-            column: token.column,
-        });
+        return Err(bad(FaultKind::Number, token.line, token.column));
     }
     if fraction.len() > 38 - whole.len() {
-        return Err(ScriptFault::Bad {
-            kind: FaultKind::Number,
-            line: token.line,
-            column: token.column,
-        });
+        return Err(bad(FaultKind::Number, token.line, token.column));
     }
     let number = digits_behind(digits_behind(0, whole), fraction);
     match lowest(number, power_of_ten(fraction.len())) {
         Some(value) => Ok(value),
-        None => Err(ScriptFault::Bad {
-            kind: FaultKind::Number,
-            line: token.line,
-            column: token.column,
-        }),
+        None => Err(bad(FaultKind::Number, token.line, token.column)),
     }
 }

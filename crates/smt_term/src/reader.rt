@@ -12,6 +12,7 @@ ghost use Rattle.smt_term.specs.Reads.{scope_seen, Fits, Keeps, GivesHead};
 use crate::making::added;
 use crate::number::{decimal, numeral};
 use crate::operator::{Operator, Shape, operator_named};
+use crate::part::bad;
 use crate::seen::Seen;
 use crate::word::{is_reserved, is_symbol, is_word};
 use lin_term::Sort;
@@ -86,46 +87,7 @@ fn operator_alone(
 {
     match shape {
         Shape::Truth(is) => truth_alone(table, is),
-        Shape::One(_) => Err(ScriptFault::Bad {
-            kind: FaultKind::Arity,
-            line,
-            column,
-        }),
-        Shape::Several(_) => Err(ScriptFault::Bad {
-            kind: FaultKind::Arity,
-            line,
-            column,
-        }),
-        Shape::Chain(_) => Err(ScriptFault::Bad {
-            kind: FaultKind::Arity,
-            line,
-            column,
-        }),
-        Shape::Pairwise => Err(ScriptFault::Bad {
-            kind: FaultKind::Arity,
-            line,
-            column,
-        }),
-        Shape::Left(_) => Err(ScriptFault::Bad {
-            kind: FaultKind::Arity,
-            line,
-            column,
-        }),
-        Shape::Right(_) => Err(ScriptFault::Bad {
-            kind: FaultKind::Arity,
-            line,
-            column,
-        }),
-        Shape::Difference => Err(ScriptFault::Bad {
-            kind: FaultKind::Arity,
-            line,
-            column,
-        }),
-        Shape::Choice => Err(ScriptFault::Bad {
-            kind: FaultKind::Arity,
-            line,
-            column,
-        }),
+        _ => Err(bad(FaultKind::Arity, line, column)),
     }
 }
 
@@ -137,20 +99,12 @@ impl<'a> Reader<'a> {
     {
         let known = match self.names.find(token.text) {
             None => {
-                return Err(ScriptFault::Bad {
-                    kind: FaultKind::Symbol,
-                    line: token.line,
-                    column: token.column,
-                });
+                return Err(bad(FaultKind::Symbol, token.line, token.column));
             }
             Some(known) => known,
         };
         if !signature_of(&self.signatures, known.signature).is_empty() {
-            return Err(ScriptFault::Bad {
-                kind: FaultKind::Arity,
-                line: token.line,
-                column: token.column,
-            });
+            return Err(bad(FaultKind::Arity, token.line, token.column));
         }
         Ok(Seen {
             sort: known.sort,
@@ -168,11 +122,7 @@ impl<'a> Reader<'a> {
             None => {}
         }
         match self.names.find(token.text) {
-            None => Err(ScriptFault::Bad {
-                kind: FaultKind::Symbol,
-                line: token.line,
-                column: token.column,
-            }),
+            None => Err(bad(FaultKind::Symbol, token.line, token.column)),
             Some(known) => Ok(Head::Name(known)),
         }
     }
@@ -196,18 +146,10 @@ impl<'a> Reader<'a> {
             return Ok(Head::Annotation);
         }
         if !is_symbol(token) {
-            return Err(ScriptFault::Bad {
-                kind: FaultKind::Sort,
-                line: token.line,
-                column: token.column,
-            });
+            return Err(bad(FaultKind::Sort, token.line, token.column));
         }
         if is_reserved(token) {
-            return Err(ScriptFault::Bad {
-                kind: FaultKind::Symbol,
-                line: token.line,
-                column: token.column,
-            });
+            return Err(bad(FaultKind::Symbol, token.line, token.column));
         }
         self.symbol_head(token)
     }
@@ -218,11 +160,7 @@ impl<'a> Reader<'a> {
         ensures keeps { OnOk result (Keeps self.old self.new) }
     {
         if is_reserved(token) {
-            return Err(ScriptFault::Bad {
-                kind: FaultKind::Symbol,
-                line: token.line,
-                column: token.column,
-            });
+            return Err(bad(FaultKind::Symbol, token.line, token.column));
         }
         match operator_named(self.logic, token.text) {
             Some(op) => operator_alone(&mut self.table, op.shape, token.line, token.column),
@@ -258,11 +196,7 @@ impl<'a> Reader<'a> {
     {
         match self.logic {
             Sort::Int => {
-                return Err(ScriptFault::Bad {
-                    kind: FaultKind::Sort,
-                    line: token.line,
-                    column: token.column,
-                });
+                return Err(bad(FaultKind::Sort, token.line, token.column));
             }
             Sort::Rat => {}
         }
@@ -292,11 +226,7 @@ impl<'a> Reader<'a> {
             TokenKind::Decimal => self.fraction(token),
             TokenKind::Symbol => self.symbol_alone(token),
             TokenKind::Quoted => self.symbol_alone(token),
-            _ => Err(ScriptFault::Bad {
-                kind: FaultKind::Sort,
-                line: token.line,
-                column: token.column,
-            }),
+            _ => Err(bad(FaultKind::Sort, token.line, token.column)),
         }
     }
 }

@@ -6,7 +6,7 @@ ghost use Rattle.smt_term.specs.Word as spec;
 ghost use Rattle.smt_term.specs.View.{IsRead, part_seen};
 
 use crate::operator::operator_named;
-use crate::part::Part;
+use crate::part::{Part, bad};
 use lin_term::Sort;
 use lin_truth::VarSort;
 use smt_lex::{Token, TokenKind};
@@ -18,14 +18,7 @@ fn is_kind_symbol(kind: TokenKind) -> bool
     match kind {
         TokenKind::Symbol => true,
         TokenKind::Quoted => true,
-        TokenKind::Left => false,
-        TokenKind::Right => false,
-        TokenKind::Text => false,
-        TokenKind::Numeral => false,
-        TokenKind::Decimal => false,
-        TokenKind::Hexadecimal => false,
-        TokenKind::Binary => false,
-        TokenKind::Keyword => false,
+        _ => false,
     }
 }
 
@@ -34,15 +27,7 @@ fn is_simple_kind(kind: TokenKind) -> bool
 {
     match kind {
         TokenKind::Symbol => true,
-        TokenKind::Quoted => false,
-        TokenKind::Left => false,
-        TokenKind::Right => false,
-        TokenKind::Text => false,
-        TokenKind::Numeral => false,
-        TokenKind::Decimal => false,
-        TokenKind::Hexadecimal => false,
-        TokenKind::Binary => false,
-        TokenKind::Keyword => false,
+        _ => false,
     }
 }
 
@@ -111,11 +96,7 @@ fn sort_spelled(logic: Sort, token: &Token<'_>) -> Result<VarSort, ScriptFault>
     if token.text == number_sort(logic) {
         return Ok(VarSort::Number);
     }
-    Err(ScriptFault::Bad {
-        kind: FaultKind::Sort,
-        line: token.line,
-        column: token.column,
-    })
+    Err(bad(FaultKind::Sort, token.line, token.column))
 }
 
 /// Bool, or the sort of the logic's numbers.
@@ -123,18 +104,10 @@ pub fn sort_of(logic: Sort, part: Part<'_, '_>) -> Result<VarSort, ScriptFault>
     ensures { IsRead (spec.sort_of logic (part_seen part.entry)) result }
 {
     match part {
-        Part::Group(line, column, _) => Err(ScriptFault::Bad {
-            kind: FaultKind::Sort,
-            line,
-            column,
-        }),
+        Part::Group(line, column, _) => Err(bad(FaultKind::Sort, line, column)),
         Part::Token(token) => {
             if !is_symbol(&token) || is_reserved(&token) {
-                return Err(ScriptFault::Bad {
-                    kind: FaultKind::Sort,
-                    line: token.line,
-                    column: token.column,
-                });
+                return Err(bad(FaultKind::Sort, token.line, token.column));
             }
             sort_spelled(logic, &token)
         }

@@ -12,11 +12,12 @@ use Rattle.smt_term.proofs.ApplyLemmas.{application-arity, application-sort, app
 use Rattle.smt_term.proofs.apply.application.Goals as goal
 
 pub returns-then-not-arity_fits : goal.returns-then-not-arity_fits
-returns-then-not-arity_fits c = application-arity (meanings c.args.table.now) c.args.args.now c.args.op (place c.args.line c.args.column) (sym c.if-not-arity_fits.ensures)
+returns-then-not-arity_fits c =
+    rw c.bad.ensures (application-arity (meanings c.args.table.now) c.args.args.now c.args.op (place c.args.line c.args.column) (sym c.if-not-arity_fits.ensures))
 
 pub returns-then-not-sorts_fit : goal.returns-then-not-sorts_fit
 returns-then-not-sorts_fit c =
-    application-sort (meanings c.args.table.now) c.args.args.now c.args.op (place c.args.line c.args.column) (sym c.if-not-arity_fits.ensures) (sym c.if-not-sorts_fit.ensures)
+    rw c.bad-then-not-sorts_fit.ensures (application-sort (meanings c.args.table.now) c.args.args.now c.args.op (place c.args.line c.args.column) (sym c.if-not-arity_fits.ensures) (sym c.if-not-sorts_fit.ensures))
 
 pub returns-in-Err : goal.returns-in-Err
 returns-in-Err c =

@@ -9,15 +9,16 @@ use Rattle.smt_term.proofs.ApplyLemmas.{divided-arity, divided-sort, divided-zer
 use Rattle.smt_term.proofs.apply.divided.Goals as goal
 
 pub returns-then-args-ne1 : goal.returns-then-args-ne1
-returns-then-args-ne1 c = divided-arity (meanings c.args.table.now) c.args.args.now c.args.modulus (place c.args.line c.args.column) c.if-args-ne1.true
+returns-then-args-ne1 c =
+    rw c.bad.ensures (divided-arity (meanings c.args.table.now) c.args.args.now c.args.modulus (place c.args.line c.args.column) c.if-args-ne1.true)
 
 pub returns-then-not-is_same : goal.returns-then-not-is_same
 returns-then-not-is_same c =
-    divided-sort (meanings c.args.table.now) c.args.args.now c.args.modulus (place c.args.line c.args.column) c.if-args-ne1.false (sym c.if-not-is_same.ensures)
+    rw c.bad-then-not-is_same.ensures (divided-sort (meanings c.args.table.now) c.args.args.now c.args.modulus (place c.args.line c.args.column) c.if-args-ne1.false (sym c.if-not-is_same.ensures))
 
 pub returns-then-modulus-eq0 : goal.returns-then-modulus-eq0
 returns-then-modulus-eq0 c =
-    divided-zero (meanings c.args.table.now) c.args.args.now c.args.modulus (place c.args.line c.args.column) c.if-args-ne1.false (sym c.if-not-is_same.ensures) c.if-modulus-eq0.true
+    rw c.bad-then-modulus-eq0.ensures (divided-zero (meanings c.args.table.now) c.args.args.now c.args.modulus (place c.args.line c.args.column) c.if-args-ne1.false (sym c.if-not-is_same.ensures) c.if-modulus-eq0.true)
 
 bool_with : Meaning → Read Typed
 bool_with m = Ok (record { sort = sort.Bool; tree = m })

@@ -13,18 +13,18 @@ use Rattle.smt_term.proofs.apply.expansion.Goals as goal
 pub returns-then-is_empty : goal.returns-then-is_empty
 returns-then-is_empty c =
     let ms = meanings c.args.table.now in
-    expansion-none ms c.args.args.now c.args.params.now (typed_at ms c.args.body) (place c.args.line c.args.column) (sym c.if-is_empty.ensures)
+    rw c.bad.ensures (expansion-none ms c.args.args.now c.args.params.now (typed_at ms c.args.body) (place c.args.line c.args.column) (sym c.if-is_empty.ensures))
 
 pub returns-then-args-params : goal.returns-then-args-params
 returns-then-args-params c =
     let ms = meanings c.args.table.now in
-    expansion-arity ms c.args.args.now c.args.params.now (typed_at ms c.args.body) (place c.args.line c.args.column) c.if-args-params.true
+    rw c.bad-then-args-params.ensures (expansion-arity ms c.args.args.now c.args.params.now (typed_at ms c.args.body) (place c.args.line c.args.column) c.if-args-params.true)
 
 pub returns-then-not-have_sorts : goal.returns-then-not-have_sorts
 returns-then-not-have_sorts c =
     let ms = meanings c.args.table.now in
-    expansion-sort ms c.args.args.now c.args.params.now (typed_at ms c.args.body) (place c.args.line c.args.column) (sym c.if-is_empty.ensures) c.if-args-params.false
-    (sym c.if-not-have_sorts.ensures)
+    rw c.bad-then-not-have_sorts.ensures (expansion-sort ms c.args.args.now c.args.params.now (typed_at ms c.args.body) (place c.args.line c.args.column) (sym c.if-is_empty.ensures) c.if-args-params.false
+    (sym c.if-not-have_sorts.ensures))
 
 pub added-requires : goal.added-requires
 added-requires c =

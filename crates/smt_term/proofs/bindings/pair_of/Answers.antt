@@ -7,7 +7,7 @@ use Rattle.smt_term.proofs.bindings.pair_of.Goals as goal
 
 pub returns-then-items-ne2 : goal.returns-then-items-ne2
 returns-then-items-ne2 c =
-    pair-wrong c.args.logic c.args.taken.now (part c.args.item.now) (place c.in-Group.line c.in-Group.column) c.in-Group.items.now (sym c.in-Group.ensures) c.if-items-ne2.true
+    rw c.bad-then-items-ne2.ensures (pair-wrong c.args.logic c.args.taken.now (part c.args.item.now) (place c.in-Group.line c.in-Group.column) c.in-Group.items.now (sym c.in-Group.ensures) c.if-items-ne2.true)
 
 pub returns-in-Err : goal.returns-in-Err
 returns-in-Err c =
@@ -15,7 +15,8 @@ returns-in-Err c =
     (part_seen c.part_of-in-Group.result) c.in-Err.fault (sym c.in-Group.ensures) c.if-items-ne2.false c.index-items-0.is c.part_of-in-Group.ensures c.in-Err.ensures
 
 pub returns-in-Token : goal.returns-in-Token
-returns-in-Token c = pair-token c.args.logic c.args.taken.now (part c.args.item.now) (lexeme c.in-Token.token) (sym c.in-Token.ensures)
+returns-in-Token c =
+    rw c.bad.ensures (pair-token c.args.logic c.args.taken.now (part c.args.item.now) (lexeme c.in-Token.token) (sym c.in-Token.ensures))
 
 pub returns-in-Ok : goal.returns-in-Ok
 returns-in-Ok c =

@@ -9,7 +9,8 @@ use Rattle.smt_term.proofs.PartLemmas.{index-short, index-three, read_as}
 use Rattle.smt_term.proofs.index.index_head.Goals as goal
 
 pub returns-then-items-ne3 : goal.returns-then-items-ne3
-returns-then-items-ne3 c = index-short c.args.logic (place c.args.line c.args.column) c.args.items.now c.if-items-ne3.true
+returns-then-items-ne3 c =
+    rw c.bad.ensures (index-short c.args.logic (place c.args.line c.args.column) c.args.items.now c.if-items-ne3.true)
 
 pub returns-then-not-is_mark : goal.returns-then-not-is_mark
 returns-then-not-is_mark c =
@@ -18,8 +19,8 @@ returns-then-not-is_mark c =
     let b = c.index-items-1.result in
     let d = c.index-items-2.result in
     let mark : is_mark (part a) ≡ false = ap is_mark (sym c.part_of-mark.ensures) ∙ sym c.if-not-is_mark.ensures in
-    index-three c.args.logic p c.args.items.now a b d c.if-items-ne3.false c.index-items-0.is c.index-items-1.is c.index-items-2.is
-    ∙ ap (λ (m : Bool). unless m kind.Sort p (divisible_index c.args.logic (part b) (part d))) mark
+    rw c.bad-then-not-is_mark.ensures (index-three c.args.logic p c.args.items.now a b d c.if-items-ne3.false c.index-items-0.is c.index-items-1.is c.index-items-2.is
+    ∙ ap (λ (m : Bool). unless m kind.Sort p (divisible_index c.args.logic (part b) (part d))) mark)
 
 pub returns : goal.returns
 returns c =

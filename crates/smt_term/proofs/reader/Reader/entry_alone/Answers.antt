@@ -7,13 +7,14 @@ use Rattle.smt_term.proofs.ReaderLemmas.{alone-none, alone-arity, alone-is, foun
 use Rattle.smt_term.proofs.reader.Reader.entry_alone.Goals as goal
 
 pub returns-in-None : goal.returns-in-None
-returns-in-None c = alone-none c.args.self.now (lexeme c.args.token.now) (sym c.in-None.ensures)
+returns-in-None c =
+    rw c.bad.ensures (alone-none c.args.self.now (lexeme c.args.token.now) (sym c.in-None.ensures))
 
 pub returns-then-not-is_empty : goal.returns-then-not-is_empty
 returns-then-not-is_empty c =
     let some : eqb (length (signature_at c.args.self.now.signatures.items c.in-Some.known.signature)) 0 ≡ false =
     ap (λ (ss : List VarSort). eqb (length ss) 0) (sym c.signature_of.ensures) ∙ sym c.if-not-is_empty.ensures in
-    alone-arity c.args.self.now (lexeme c.args.token.now) c.in-Some.known (sym c.in-Some.ensures) some
+    rw c.bad-then-not-is_empty.ensures (alone-arity c.args.self.now (lexeme c.args.token.now) c.in-Some.known (sym c.in-Some.ensures) some)
 
 pub returns : goal.returns
 returns c =

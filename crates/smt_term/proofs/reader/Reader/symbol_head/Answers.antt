@@ -4,7 +4,8 @@ use Rattle.smt_term.proofs.ReaderLemmas.{head-operator-none, head-operator-name,
 use Rattle.smt_term.proofs.reader.Reader.symbol_head.Goals as goal
 
 pub returns-in-None-find : goal.returns-in-None-find
-returns-in-None-find c = head-operator-none c.args.self.now (lexeme c.args.token.now) (sym c.in-None.ensures) (sym c.in-None-find.ensures)
+returns-in-None-find c =
+    rw c.bad.ensures (head-operator-none c.args.self.now (lexeme c.args.token.now) (sym c.in-None.ensures) (sym c.in-None-find.ensures))
 
 pub returns-in-Some-find : goal.returns-in-Some-find
 returns-in-Some-find c = (
