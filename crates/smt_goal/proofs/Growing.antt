@@ -1,5 +1,5 @@
 -- What a session has read, as its table grows.
-use Rattle.std.proofs.Common.{◌≡◌, ℕ, ◌<◌, ◌≤◌, eqb, true, false, List, [], ◌∷◌, ◌++◌, length, map, is_some, Option, Some, None, Result, Ok, refl, sym, ap, subst, ◌∙◌, arith}
+use Rattle.std.proofs.Common.{◌≡◌, ℕ, ◌<◌, ◌≤◌, eqb, false, not, ◌&&◌, List, [], ◌∷◌, ◌++◌, length, map, is_some, Option, Some, None, Result, Ok, refl, sym, ap, subst, ◌∙◌, arith}
 use Rattle.std.proofs.lemmas.Bool.{ne_eqb}
 use Rattle.lin_truth.specs.declared.VarSort.{VarSort}
 use Rattle.lin_truth.specs.Term.{Term, variable, and_of}
@@ -16,7 +16,10 @@ use Rattle.term_table.proofs.Growth.{at-extends, Extends-length}
 use Rattle.smt_tree.specs.declared.Expr.{Expr}
 use Rattle.smt_tree.specs.Sexp.{Sexps, ◌and◌}
 use Rattle.smt_tree.specs.Seen.{all_seen}
-use Rattle.smt_term.specs.Reading.{Read, Part, token, group}
+use Rattle.ss_names.specs.declared.FaultKind.TheVariants as kind
+use Rattle.lin_term.specs.declared.Sort.{Sort}
+use Rattle.smt_term.specs.Reading.{Read, ◌>>=◌, unless, place_of, Part, token, group}
+use Rattle.smt_term.specs.Word.{is_free, symbol_of, new_name}
 use Rattle.smt_term.specs.Terms.{is_empty, term}
 use Rattle.smt_term.specs.Reads.{scope_seen, Keeps}
 use Rattle.smt_term.specs.declared.Seen.{Seen}
@@ -36,11 +39,15 @@ use Rattle.smt_goal.specs.Session.{asked_at, formula_at, state_seen, RootsIn, Si
 
 -- ---- names that are taken
 
-pub not_taken : (ms : List Meaning) (sigs : List (List VarSort)) (ks : List (List ℕ × Known)) (name : List ℕ) → looked_up ks name ≡ None → has_name (entries_at ms sigs ks) name ≡ false
-not_taken ms sigs ks name is = ap (λ (e : Option Entry). is_some e) (found-none ms sigs ks name is)
+taken-same : (ms : List Meaning) (sigs : List (List VarSort)) (ks : List (List ℕ × Known)) (name : List ℕ) (found : Option Known) → looked_up ks name ≡ found
+    → has_name (entries_at ms sigs ks) name ≡ has_name ks name
+taken-same ms sigs ks name None is = ap (λ (e : Option Entry). is_some e) (found-none ms sigs ks name is) ∙ sym (ap (λ (k : Option Known). is_some k) is)
+taken-same ms sigs ks name (Some known) is = ap (λ (e : Option Entry). is_some e) (found-some ms sigs ks name known is) ∙ sym (ap (λ (k : Option Known). is_some k) is)
 
-pub taken : (ms : List Meaning) (sigs : List (List VarSort)) (ks : List (List ℕ × Known)) (name : List ℕ) (known : Known) → looked_up ks name ≡ Some known → has_name (entries_at ms sigs ks) name ≡ true
-taken ms sigs ks name known is = ap (λ (e : Option Entry). is_some e) (found-some ms sigs ks name known is)
+-- the names of the code are taken where those of the definition are
+pub new_name-seen : (logic : Sort) (ms : List Meaning) (sigs : List (List VarSort)) (ks : List (List ℕ × Known)) (x : Part) → new_name logic (entries_at ms sigs ks) x ≡ new_name logic ks x
+new_name-seen logic ms sigs ks x =
+    λ i. symbol_of x >>= λ t. unless (is_free logic t && not (taken-same ms sigs ks t.text (looked_up ks t.text) refl i)) kind.Symbol (place_of t) (Ok t.text)
 
 -- ---- a table that grew
 

@@ -1,6 +1,5 @@
 -- What a session has read, as the definition of reading sees it.
 use Rattle.std.specs.Prelude.{◌≡◌, ◌<◌, ◌≤◌, ℕ, List, [], ◌∷◌, ◌++◌, length, map, Result, Ok, Err}
-use Rattle.std.specs.Borrow.{Bor}
 use Rattle.ss_names.specs.declared.ScriptFault.{ScriptFault}
 use Rattle.ss_names.specs.declared.ScriptFault.TheVariants.{Bad, Memory}
 use Rattle.lin_truth.specs.declared.VarSort.TheVariants as sorts
@@ -71,12 +70,6 @@ abbrev pub Passes : State → Read State → Result (Unit {0}) ScriptFault → T
 Passes st read (Ok u) = read ≡ Ok st
 Passes st read (Err (Bad k line column)) = read ≡ Err (Bad k line column)
 Passes st read (Err Memory) = Unit {0}
-
--- a name is what the definition gives; want of memory is free
-abbrev pub IsName : Read (List ℕ) → Result (Bor (List ℕ)) ScriptFault → Type 0
-IsName read (Ok name) = read ≡ Ok name.now
-IsName read (Err (Bad k line column)) = read ≡ Err (Bad k line column)
-IsName read (Err Memory) = Unit {0}
 
 -- the table grew, and nothing was said
 pub record Remains (old new : Session) : Type 0 where

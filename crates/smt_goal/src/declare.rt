@@ -1,19 +1,19 @@
-//! Commands that set the logic, declare constants, and assert.
+//! Commands that set the logic and declare constants, and `exit`.
 
 ghost use Rattle.std.specs.Prelude.{◌≡◌, ◌∷◌, [], length, map, true, Ok};
 ghost use Rattle.smt_lex.specs.Place.{place};
 ghost use Rattle.smt_term.specs.Word as word;
-ghost use Rattle.smt_term.specs.Scope.{has_name};
 ghost use Rattle.smt_term.specs.View.{part, part_seen};
+ghost use Rattle.smt_term.specs.Newest.{IsName};
 ghost use Rattle.smt_goal.specs.Command.{sort_or_rat};
 ghost use Rattle.smt_goal.specs.Command as spec;
-ghost use Rattle.smt_goal.specs.Session.{state_seen, IsReady, Obeys, IsName};
+ghost use Rattle.smt_goal.specs.Session.{state_seen, IsReady, Obeys};
 
 use crate::info::fault_at;
 use crate::session::Session;
 use crate::setting::logic_named;
 use lin_truth::VarSort;
-use smt_term::{Part, is_free, is_symbol, part_of, sort_of};
+use smt_term::{Part, new_name, part_of, sort_of};
 use smt_tree::Expr;
 use ss_names::{FaultKind, ScriptFault};
 use symbol_table::Known;
@@ -25,40 +25,7 @@ impl<'a> Session<'a> {
         requires { IsReady self.now }
         ensures { IsName (word.new_name (sort_or_rat (state_seen self.now).logic) (state_seen self.now).names (part_seen part.entry)) result }
     {
-        let token = match part {
-            Part::Group(line, column, _) => {
-                return Err(ScriptFault::Bad {
-                    kind: FaultKind::Sort,
-                    line,
-                    column,
-                });
-            }
-            Part::Token(token) => token,
-        };
-        if !is_symbol(&token) {
-            return Err(ScriptFault::Bad {
-                kind: FaultKind::Sort,
-                line: token.line,
-                column: token.column,
-            });
-        }
-        if !is_free(self.reader.logic, &token) || self.is_taken(token.text) {
-            return Err(ScriptFault::Bad {
-                kind: FaultKind::Symbol,
-                line: token.line,
-                column: token.column,
-            });
-        }
-        Ok(token.text)
-    }
-
-    fn is_taken(&self, name: &[u8]) -> bool
-        ensures { result ≡ has_name (state_seen self.now).names name.now }
-    {
-        match self.reader.names.find(name) {
-            None => false,
-            Some(_) => true,
-        }
+        new_name(self.reader.logic, &self.reader.names, part)
     }
 
     // Adds a constant of this name and sort.

@@ -4,7 +4,6 @@ ghost use Rattle.std.specs.Prelude.{◌≡◌, ◌<◌, ◌∷◌, [], List, len
 ghost use Rattle.smt_lex.specs.Place.{place};
 ghost use Rattle.term_table.specs.Meaning.{meanings};
 ghost use Rattle.smt_term.specs.Scope.{with_parameters, sorts_in_order};
-ghost use Rattle.smt_term.specs.Apply.{same_sort};
 ghost use Rattle.smt_term.specs.Reads.{Fits};
 ghost use Rattle.smt_term.specs.Terms.{term};
 ghost use Rattle.smt_term.specs.View.{part, part_seen, typed_at, GivesOne};
@@ -16,7 +15,7 @@ use crate::info::fault_at;
 use crate::session::Session;
 use lin_term::Sort;
 use lin_truth::VarSort;
-use smt_term::{Binding, Part, Reader, Seen, part_of, sort_of, sorted};
+use smt_term::{Binding, Part, Reader, Seen, is_same, part_of, sort_of, sorted};
 use smt_tree::Expr;
 use sqlite_items::Items;
 use ss_names::{FaultKind, ScriptFault};
@@ -91,16 +90,6 @@ fn sorts_of(alloc: Global, params: &[Binding<'_>]) -> Result<Items<VarSort>, All
         sorts.push(param.sort)?;
     }
     Ok(Items::from_vec(sorts))
-}
-
-fn is_same(a: VarSort, b: VarSort) -> bool
-    ensures { result ≡ same_sort a b }
-{
-    match (a, b) {
-        (VarSort::Bool, VarSort::Bool) => true,
-        (VarSort::Number, VarSort::Number) => true,
-        _ => false,
-    }
 }
 
 impl<'a> Session<'a> {
