@@ -1,5 +1,5 @@
-//! What is known of a node as a constant term. Only a use of a definition is written out for it, and only where it is
-//! a constant term no larger than a goal may be; all others take one step for each part.
+//! What is known of a node as a constant term. What is none takes no step; a constant term takes one for each part, but for
+//! a use of a definition, which is written out where it is no larger than a goal may be.
 
 ghost use Rattle.std.specs.Prelude.{◌≡◌, ◌==◌, ◌<◌, ◌≤◌, length, map, nat_le, if◌then◌else◌, IfOk};
 ghost use Rattle.lin_truth.specs.Term.{Term};
@@ -72,7 +72,7 @@ fn known_whole(
     Ok(known_several(op, known.as_slice()))
 }
 
-/// The value of a use of a definition of this size.
+/// The value of a use of a definition of this size, which is a constant term.
 fn known_use(
     alloc: Global,
     entries: &[Entry],
@@ -84,9 +84,6 @@ fn known_use(
     requires size { AreSizes size (λ s. scale.size s (used (tree_at (meanings (nodes_of entries.now)) body) (map (tree_at (meanings (nodes_of entries.now))) args.now) top 0)) }
     ensures { IfOk result (IsKnown (used (tree_at (meanings (nodes_of entries.now)) body) (map (tree_at (meanings (nodes_of entries.now))) args.now))) }
 {
-    if size.free > 0 {
-        return Ok(None);
-    }
     if size.nodes > MOST_NODES {
         return Ok(None);
     }
@@ -106,6 +103,9 @@ pub fn known_of(
     requires size { AreSizes size (λ s. scale.size s (meaning (meanings (nodes_of entries.now)) node.now top 0)) }
     ensures { IfOk result (IsKnown (meaning (meanings (nodes_of entries.now)) node.now)) }
 {
+    if size.free > 0 {
+        return Ok(None);
+    }
     match node {
         Node::Leaf(leaf) => Ok(known_leaf(leaf)),
         Node::Parameter(_) => Ok(None),

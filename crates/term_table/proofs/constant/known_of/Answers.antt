@@ -1,13 +1,19 @@
-use Rattle.std.proofs.Common.{◌≡◌, ◌∙◌, ℕ, List, map, ap, sym, subst}
+use Rattle.std.proofs.Common.{◌≡◌, ◌∙◌, ℕ, List, map, ap, sym, subst, arith}
 use Rattle.std.specs.Prelude.{IfOk}
 use Rattle.term_table.specs.declared.node.Node.{Node}
-use Rattle.term_table.specs.Placed.{used}
+use Rattle.term_table.specs.Scale.{by_freedom}
+use Rattle.term_table.specs.Placed.{top, used}
 use Rattle.term_table.specs.Built.{several_of}
 use Rattle.term_table.specs.Meaning.{meaning, meanings, at}
 use Rattle.term_table.specs.Known.{known_one, known_two, known_several}
 use Rattle.term_table.specs.Entries.{nodes_of, knowns_of, known_at, IsKnown}
-use Rattle.term_table.proofs.Knowing.{known-at, know-one, know-two, know-several, if_ok-is}
+use Rattle.term_table.proofs.Knowing.{free-none, known-at, know-one, know-two, know-several, if_ok-is}
 use Rattle.term_table.proofs.constant.known_of.Goals as goal
+
+pub returns-then-size-gt0 : goal.returns-then-size-gt0
+returns-then-size-gt0 c =
+    let ms = meanings (nodes_of c.args.entries.now) in
+    λ le. free-none (meaning ms c.args.node.now top 0) c.args.size.free (c.requires.size by_freedom) (omega (arith, c.if-size-gt0.true))
 
 pub returns-in-One : goal.returns-in-One
 returns-in-One c =

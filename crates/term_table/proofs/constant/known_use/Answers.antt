@@ -2,15 +2,10 @@ use Rattle.std.proofs.Common.{map, arith}
 use Rattle.term_table.specs.Placed.{top, used}
 use Rattle.term_table.specs.Meaning.{meanings, at}
 use Rattle.term_table.specs.Entries.{nodes_of}
-use Rattle.term_table.specs.Scale.{by_nodes, by_freedom}
-use Rattle.term_table.proofs.Knowing.{free-none, too_large, if_ok-known}
+use Rattle.term_table.specs.Scale.{by_nodes}
+use Rattle.term_table.proofs.Knowing.{too_large, if_ok-known}
 use Rattle.term_table.proofs.KnownLemmas.{steps-worked}
 use Rattle.term_table.proofs.constant.known_use.Goals as goal
-
-pub returns-then-size-gt0 : goal.returns-then-size-gt0
-returns-then-size-gt0 c =
-    let ms = meanings (nodes_of c.args.entries.now) in
-    λ le. free-none (used (at ms c.args.body) (map (at ms) c.args.args.now) top 0) c.args.size.free (c.requires.size by_freedom) (omega (arith, c.if-size-gt0.true))
 
 pub returns-then-size-gt-MOST_NODES : goal.returns-then-size-gt-MOST_NODES
 returns-then-size-gt-MOST_NODES c =
