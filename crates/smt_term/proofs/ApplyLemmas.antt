@@ -14,12 +14,14 @@ use Rattle.term_table.specs.Placed.{Typed, used}
 use Rattle.term_table.specs.Built.{one_of}
 use Rattle.term_table.specs.Meaning.{Meaning, at, Extends}
 use Rattle.term_table.proofs.Growth.{Extends-then}
+use Rattle.smt_term.specs.declared.operator.Linear.{Linear}
+use Rattle.smt_term.specs.declared.operator.Linear.TheVariants as linear
 use Rattle.smt_term.specs.declared.operator.Operator.{Operator}
 use Rattle.smt_term.specs.declared.seen.Seen.{Seen}
 use Rattle.smt_term.specs.Operator.{sort_given}
 use Rattle.smt_term.specs.Reading.{Read, ◌>>=◌, refuse, unless}
 use Rattle.smt_term.specs.Apply.{arity_fits, sorts_fit, sorts_of, last_sort, linear_fits, worth_here, applied, application, same_sort, same_sorts, built, trees, divided, expansion, expanded}
-use Rattle.smt_term.specs.View.{typed_at, all_at, sorts_seen, worths_at, GivesOne, Makes, IsDone}
+use Rattle.smt_term.specs.View.{typed_at, all_at, sorts_seen, worths_at, AreAsked, GivesOne, Makes, IsDone}
 use Rattle.smt_term.proofs.MakingLemmas.{no_seen}
 
 length-all : (ms : List Meaning) (xs : List Seen) → length (all_at ms xs) ≡ length xs
@@ -39,6 +41,12 @@ trees-all ms [] = refl
 trees-all ms (x ∷ xs) = ap (λ (fs : List Meaning). at ms x.node ∷ fs) (trees-all ms xs)
 
 -- ---- an operator
+
+-- an operator that looks at nothing fits whatever is given for it
+pub linear-asked : (l : Linear) (ws us : List Worth) (p : Place) → AreAsked l ws us → linear_fits l ws p ≡ linear_fits l us p
+linear-asked linear.Free ws us p is = refl
+linear-asked linear.Factors ws us p is = ap (λ (xs : List Worth). linear_fits linear.Factors xs p) is
+linear-asked linear.Divisors ws us p is = ap (λ (xs : List Worth). linear_fits linear.Divisors xs p) is
 
 pub application-arity : (ms : List Meaning) (xs : List Seen) (op : Operator) (p : Place) → arity_fits op (length xs) ≡ false
     → application op p (all_at ms xs) ≡ refuse kind.Arity p

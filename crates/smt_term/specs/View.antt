@@ -20,6 +20,8 @@ use Rattle.smt_lex.specs.declared.Token.{Token}
 use Rattle.smt_tree.specs.declared.Expr.{Expr}
 use Rattle.smt_tree.specs.Sexp.{Sexps, none, leaf, list}
 use Rattle.smt_tree.specs.Seen.{seen, all_seen}
+use Rattle.smt_term.specs.declared.operator.Linear.{Linear}
+use Rattle.smt_term.specs.declared.operator.Linear.TheVariants as linear
 use Rattle.smt_term.specs.declared.part.Part.{Part as Shown}
 use Rattle.smt_term.specs.declared.part.Part.TheVariants as shown
 use Rattle.smt_term.specs.Reading.{Read, Part, token, group}
@@ -50,6 +52,12 @@ sorts_seen xs = map (λ (x : Seen). x.sort) xs
 
 abbrev pub worths_at : List Meaning → List Seen → List Worth
 worths_at ms xs = map (λ (x : Seen). worth_of (at ms x.node top 0)) xs
+
+-- what is known of the arguments, where the operator looks at it
+abbrev pub AreAsked : Linear → List Worth → List Worth → Type 0
+AreAsked linear.Free ws us = Unit {0}
+AreAsked linear.Factors ws us = ws ≡ us
+AreAsked linear.Divisors ws us = ws ≡ us
 
 -- each is in a table of so many
 abbrev pub AreIn : ℕ → List Seen → Type 0

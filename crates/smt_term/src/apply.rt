@@ -10,7 +10,7 @@ ghost use Rattle.term_table.specs.Worth.{worth_of};
 ghost use Rattle.term_table.specs.Meaning.{at, meanings};
 ghost use Rattle.smt_term.specs.Apply as spec;
 ghost use Rattle.smt_term.specs.Operator.{sort_given};
-ghost use Rattle.smt_term.specs.View.{typed_at, all_at, sorts_seen, worths_at, AreIn, GivesOne, IsDone};
+ghost use Rattle.smt_term.specs.View.{typed_at, all_at, sorts_seen, worths_at, AreAsked, AreIn, GivesOne, IsDone};
 
 use crate::making::{added, built, nodes_of};
 use crate::operator::{Gives, Linear, Operator, Takes};
@@ -210,7 +210,7 @@ pub fn checked(
     Ok(seen)
 }
 
-/// An operator at its arguments, by what is known of these as constant terms: kinds Arity, Sort, Divisor and Linear in
+/// An operator at its arguments, by what is known of these as constant terms where it looks at that: kinds Arity, Sort, Divisor and Linear in
 /// this order, exactly where the definition gives them.
 pub fn application(
     alloc: Global,
@@ -222,7 +222,7 @@ pub fn application(
     column: u64,
 ) -> Result<Seen, ScriptFault>
     requires args { AreIn (length table.old) args.now }
-    requires worths { worths.now ≡ worths_at (meanings table.old) args.now }
+    requires worths { AreAsked op.linear worths.now (worths_at (meanings table.old) args.now) }
     ensures { GivesOne table.old (spec.application op (place line column) (all_at (meanings table.old) args.now)) result table.new }
 {
     if !arity_fits(op, args.len()) {

@@ -4,11 +4,11 @@ ghost use Rattle.std.specs.Prelude.{◌≡◌, ◌<◌, length, OnOk, IfOk};
 ghost use Rattle.smt_lex.specs.Place.{place};
 ghost use Rattle.term_table.specs.Meaning.{meanings};
 ghost use Rattle.smt_term.specs.Apply as spec;
-ghost use Rattle.smt_term.specs.View.{typed_at, all_at, worths_at, entry_at, AreIn, GivesOne};
+ghost use Rattle.smt_term.specs.View.{typed_at, all_at, worths_at, entry_at, AreAsked, AreIn, GivesOne};
 ghost use Rattle.smt_term.specs.Reads.{Keeps};
 
 use crate::apply::{application, checked, expansion};
-use crate::operator::Operator;
+use crate::operator::{Linear, Operator};
 use crate::reader::{Reader, signature_of};
 use crate::seen::Seen;
 use ss_names::ScriptFault;
@@ -26,6 +26,23 @@ fn worths_of(alloc: Global, table: &Table, args: &[Seen]) -> Result<Vec<Worth>, 
         worths.push(table.worth(arg.node))?;
     }
     Ok(worths)
+}
+
+// The same, where the operator looks at it.
+fn asked(
+    alloc: Global,
+    table: &Table,
+    linear: Linear,
+    args: &[Seen],
+) -> Result<Vec<Worth>, AllocError>
+    requires { AreIn (length table.now) args.now }
+    ensures { IfOk result (λ worths. AreAsked linear worths.items (worths_at (meanings table.now) args.now)) }
+{
+    match linear {
+        Linear::Free => Ok(Vec::new(alloc)),
+        Linear::Factors => worths_of(alloc, table, args),
+        Linear::Divisors => worths_of(alloc, table, args),
+    }
 }
 
 // An application that was read, which is not wide.
@@ -49,7 +66,7 @@ impl<'a> Reader<'a> {
         ensures gives { GivesOne self.old.table (spec.operated op (place line column) (all_at (meanings self.old.table) args.now)) result self.new.table }
         ensures keeps { OnOk result (Keeps self.old self.new) }
     {
-        let worths = match worths_of(self.alloc, &self.table, args) {
+        let worths = match asked(self.alloc, &self.table, op.linear, args) {
             Ok(worths) => worths,
             Err(_) => return Err(ScriptFault::Memory),
         };

@@ -1,6 +1,5 @@
 use Rattle.std.proofs.Common.{◌≡◌, true, Ok, List, sym, ap, ◌∙◌}
 use Rattle.smt_lex.specs.Place.{place}
-use Rattle.term_table.specs.declared.Worth.{Worth}
 use Rattle.term_table.specs.Placed.{Typed}
 use Rattle.term_table.specs.Meaning.{meanings}
 use Rattle.smt_term.specs.Reading.{Read}
@@ -8,7 +7,7 @@ use Rattle.smt_term.specs.declared.seen.Seen.{Seen}
 use Rattle.smt_term.specs.Apply.{application, applied}
 use Rattle.smt_term.specs.View.{all_at, typed_at, worths_at}
 use Rattle.smt_term.specs.Apply as spec
-use Rattle.smt_term.proofs.ApplyLemmas.{application-arity, application-sort, application-linear, applied-is, fault_as, done_fault}
+use Rattle.smt_term.proofs.ApplyLemmas.{application-arity, application-sort, application-linear, applied-is, fault_as, done_fault, linear-asked}
 use Rattle.smt_term.proofs.apply.application.Goals as goal
 
 pub returns-then-not-arity_fits : goal.returns-then-not-arity_fits
@@ -27,7 +26,7 @@ returns-in-Err c =
     let tests = spec.linear_fits c.args.op.linear c.args.worths.now p in
     fault_as c.args.table.now c.args.table.now (application c.args.op p ts) c.in-Err.fault tests (λ fits. Ok (applied c.args.op ts))
     (application-linear ms c.args.args.now c.args.op p tests (sym c.if-not-arity_fits.ensures) (sym c.if-not-sorts_fit.ensures)
-    (ap (λ (ws : List Worth). spec.linear_fits c.args.op.linear ws p) (sym c.requires.worths)))
+    (sym (linear-asked c.args.op.linear c.args.worths.now (worths_at ms c.args.args.now) p c.requires.worths)))
     (done_fault tests c.in-Err.fault c.in-Err.ensures)
 
 term_read : Typed → Read Typed
@@ -43,7 +42,7 @@ returns c =
     let seen : Seen = record { sort = c.sort_of.result; node = c.in-Ok-built.node } in
     let is : applied c.args.op ts ≡ typed_at news seen = applied-is ms news c.args.args.now c.args.op seen c.sort_of.ensures c.in-Ok-built.ensures.0 in
     let fits : spec.linear_fits c.args.op.linear (worths_at ms c.args.args.now) p ≡ Ok true =
-    ap (λ (ws : List Worth). spec.linear_fits c.args.op.linear ws p) (sym c.requires.worths) ∙ c.in-Ok.ensures in (
+    sym (linear-asked c.args.op.linear c.args.worths.now (worths_at ms c.args.args.now) p c.requires.worths) ∙ c.in-Ok.ensures in (
       application-linear ms c.args.args.now c.args.op p (Ok true) (sym c.if-not-arity_fits.ensures) (sym c.if-not-sorts_fit.ensures) fits ∙ ap term_read is,
       c.in-Ok-built.ensures.1,
       c.in-Ok-built.ensures.2,
