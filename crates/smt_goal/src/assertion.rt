@@ -11,7 +11,7 @@ ghost use Rattle.smt_goal.specs.Session.{state_seen, IsReady, Obeys, Remains, fo
 use crate::info::fault_at;
 use crate::session::{Question, Session};
 use lin_truth::VarSort;
-use smt_term::{Seen, part_of};
+use smt_term::{Seen, bad, part_of};
 use smt_tree::Expr;
 use sqlite_items::Items;
 use ss_names::{FaultKind, ScriptFault};
@@ -68,11 +68,7 @@ impl<'a> Session<'a> {
         ensures { Obeys (spec.assert_of (state_seen self.old) (place line column) (map part items.now)) result self.new }
     {
         if items.len() != 1 {
-            return Err(ScriptFault::Bad {
-                kind: FaultKind::Arity,
-                line,
-                column,
-            });
+            return Err(bad(FaultKind::Arity, line, column));
         }
         self.assert_one(&items[0])
     }
@@ -113,11 +109,7 @@ impl<'a> Session<'a> {
         ensures { Obeys (spec.check_sat (state_seen self.old) (place line column) (map part items.now)) result self.new }
     {
         if !items.is_empty() {
-            return Err(ScriptFault::Bad {
-                kind: FaultKind::Arity,
-                line,
-                column,
-            });
+            return Err(bad(FaultKind::Arity, line, column));
         }
         self.ask(line, column)
     }

@@ -13,7 +13,7 @@ use crate::info::fault_at;
 use crate::session::Session;
 use crate::setting::logic_named;
 use lin_truth::VarSort;
-use smt_term::{Part, new_name, part_of, sort_of};
+use smt_term::{Part, bad, new_name, part_of, sort_of};
 use smt_tree::Expr;
 use ss_names::{FaultKind, ScriptFault};
 use symbol_table::Known;
@@ -88,11 +88,7 @@ impl<'a> Session<'a> {
         ensures { Obeys (spec.declare_const (state_seen self.old) (place line column) (map part items.now)) result self.new }
     {
         if items.len() != 2 {
-            return Err(ScriptFault::Bad {
-                kind: FaultKind::Arity,
-                line,
-                column,
-            });
+            return Err(bad(FaultKind::Arity, line, column));
         }
         self.declare_as(part_of(&items[0]), part_of(&items[1]))
     }
@@ -133,19 +129,11 @@ impl<'a> Session<'a> {
         ensures { Obeys (spec.declare_fun (state_seen self.old) (place line column) (map part items.now)) result self.new }
     {
         if items.len() != 3 {
-            return Err(ScriptFault::Bad {
-                kind: FaultKind::Arity,
-                line,
-                column,
-            });
+            return Err(bad(FaultKind::Arity, line, column));
         }
         let params = part_of(&items[1]);
         if !has_no_items(params) {
-            return Err(ScriptFault::Bad {
-                kind: FaultKind::Arity,
-                line,
-                column,
-            });
+            return Err(bad(FaultKind::Arity, line, column));
         }
         self.declare_bare(part_of(&items[0]), params, part_of(&items[2]))
     }
@@ -161,11 +149,7 @@ impl<'a> Session<'a> {
         ensures { Obeys (spec.set_logic (state_seen self.old) (place line column) (map part items.now)) result self.new }
     {
         if items.len() != 1 {
-            return Err(ScriptFault::Bad {
-                kind: FaultKind::Arity,
-                line,
-                column,
-            });
+            return Err(bad(FaultKind::Arity, line, column));
         }
         let logic = match logic_named(part_of(&items[0])) {
             None => return Err(fault_at(FaultKind::Logic, part_of(&items[0]))),
@@ -182,11 +166,7 @@ impl<'a> Session<'a> {
         ensures { Obeys (spec.exit_of (state_seen self.old) (place line column) (map part items.now)) result self.new }
     {
         if !items.is_empty() {
-            return Err(ScriptFault::Bad {
-                kind: FaultKind::Arity,
-                line,
-                column,
-            });
+            return Err(bad(FaultKind::Arity, line, column));
         }
         self.ended = true;
         Ok(())

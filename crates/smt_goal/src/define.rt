@@ -15,7 +15,7 @@ use crate::info::fault_at;
 use crate::session::Session;
 use lin_term::Sort;
 use lin_truth::VarSort;
-use smt_term::{Binding, Part, Reader, Seen, is_same, part_of, sort_of, sorted};
+use smt_term::{Binding, Part, Reader, Seen, bad, is_same, part_of, sort_of, sorted};
 use smt_tree::Expr;
 use sqlite_items::Items;
 use ss_names::{FaultKind, ScriptFault};
@@ -32,11 +32,7 @@ fn params_of<'a>(
     ensures { IsSorted (spec.params_of logic (part_seen part.entry)) result }
 {
     match part {
-        Part::Token(token) => Err(ScriptFault::Bad {
-            kind: FaultKind::Sort,
-            line: token.line,
-            column: token.column,
-        }),
+        Part::Token(token) => Err(bad(FaultKind::Sort, token.line, token.column)),
         Part::Group(_, _, items) => sorted(alloc, logic, items),
     }
 }
@@ -188,11 +184,7 @@ impl<'a> Session<'a> {
         ensures { Obeys (spec.define_fun (state_seen self.old) (place line column) (map part items.now)) result self.new }
     {
         if items.len() != 4 {
-            return Err(ScriptFault::Bad {
-                kind: FaultKind::Arity,
-                line,
-                column,
-            });
+            return Err(bad(FaultKind::Arity, line, column));
         }
         let name = part_of(&items[0]);
         let params = part_of(&items[1]);

@@ -10,7 +10,7 @@ ghost use Rattle.smt_goal.specs.Command as spec;
 ghost use Rattle.smt_goal.specs.Session.{Passes};
 
 use crate::setting::{is_keyword, is_offered};
-use smt_term::{Part, part_of};
+use smt_term::{Part, bad, part_of};
 use smt_tree::Expr;
 use ss_names::{FaultKind, ScriptFault};
 
@@ -42,11 +42,7 @@ pub fn set_info(items: &[Expr<'_>], line: u64, column: u64) -> Result<(), Script
     ensures { (st : State) → Passes st (spec.set_info st (place line column) (map part items.now)) result }
 {
     if items.len() != 1 && items.len() != 2 {
-        return Err(ScriptFault::Bad {
-            kind: FaultKind::Arity,
-            line,
-            column,
-        });
+        return Err(bad(FaultKind::Arity, line, column));
     }
     let key = part_of(&items[0]);
     if !is_keyword(key) {
@@ -60,22 +56,14 @@ pub fn set_option(items: &[Expr<'_>], line: u64, column: u64) -> Result<(), Scri
     ensures { (st : State) → Passes st (spec.set_option st (place line column) (map part items.now)) result }
 {
     if items.len() != 2 {
-        return Err(ScriptFault::Bad {
-            kind: FaultKind::Arity,
-            line,
-            column,
-        });
+        return Err(bad(FaultKind::Arity, line, column));
     }
     let key = part_of(&items[0]);
     if !is_keyword(key) {
         return Err(fault_at(FaultKind::Sort, key));
     }
     if !is_offered(text_of(key), part_of(&items[1])) {
-        return Err(ScriptFault::Bad {
-            kind: FaultKind::Setting,
-            line,
-            column,
-        });
+        return Err(bad(FaultKind::Setting, line, column));
     }
     Ok(())
 }

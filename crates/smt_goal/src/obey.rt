@@ -13,7 +13,7 @@ ghost use Rattle.smt_goal.specs.Session.{state_seen, IsReady, Obeys, Reaches};
 use crate::command::{Command, command_named, is_in_order};
 use crate::info::{fault_at, set_info, set_option};
 use crate::session::Session;
-use smt_term::{Part, part_of};
+use smt_term::{Part, bad, part_of};
 use smt_tree::{Expr, expressions_of};
 use ss_names::{FaultKind, ScriptFault};
 use std::alloc::Global;
@@ -57,20 +57,12 @@ impl<'a> Session<'a> {
     {
         let command = match command {
             None => {
-                return Err(ScriptFault::Bad {
-                    kind: FaultKind::Command,
-                    line,
-                    column,
-                });
+                return Err(bad(FaultKind::Command, line, column));
             }
             Some(command) => command,
         };
         if !is_in_order(command, !self.goals.is_empty(), self.logic.is_some()) {
-            return Err(ScriptFault::Bad {
-                kind: FaultKind::Order,
-                line,
-                column,
-            });
+            return Err(bad(FaultKind::Order, line, column));
         }
         self.obey(command, items, line, column)
     }
@@ -81,18 +73,10 @@ impl<'a> Session<'a> {
         ensures { Obeys (spec.headed (state_seen self.old) (place line column) (map part items.now)) result self.new }
     {
         match items {
-            [] => Err(ScriptFault::Bad {
-                kind: FaultKind::Command,
-                line,
-                column,
-            }),
+            [] => Err(bad(FaultKind::Command, line, column)),
             [head, rest @ ..] => match part_of(head) {
                 Part::Token(token) => self.ordered(command_named(&token), rest, line, column),
-                Part::Group(_, _, _) => Err(ScriptFault::Bad {
-                    kind: FaultKind::Command,
-                    line,
-                    column,
-                }),
+                Part::Group(_, _, _) => Err(bad(FaultKind::Command, line, column)),
             },
         }
     }

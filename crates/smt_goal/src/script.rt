@@ -10,6 +10,7 @@ use crate::obey::all_commands;
 use crate::session::{Question, Session};
 use lin_term::Sort;
 use lin_truth::Goal;
+use smt_term::bad;
 use sqlite_items::Items;
 use ss_names::{FaultKind, ScriptFault};
 use std::alloc::Global;
@@ -77,19 +78,11 @@ fn goal_of(alloc: Global, table: &Table, question: &Question) -> Result<Goal, Sc
 {
     let size = table.size(question.root);
     if size.nodes > MOST_NODES || size.depth > MOST_DEPTH {
-        return Err(ScriptFault::Bad {
-            kind: FaultKind::Size,
-            line: question.line,
-            column: question.column,
-        });
+        return Err(bad(FaultKind::Size, question.line, question.column));
     }
     let count = question.consts.len();
     if count > MOST_VARIABLES || count + size.bindings as usize > MOST_VARIABLES {
-        return Err(ScriptFault::Bad {
-            kind: FaultKind::Variables,
-            line: question.line,
-            column: question.column,
-        });
+        return Err(bad(FaultKind::Variables, question.line, question.column));
     }
     let body = match table.tree(question.root, count as u32) {
         Ok(body) => body,

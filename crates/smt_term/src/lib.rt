@@ -21,7 +21,7 @@ pub use bindings::{Binding, new_name, sorted};
 pub use index::index_head;
 pub use number::{decimal, numeral};
 pub use operator::{Gives, Linear, Operator, Shape, Takes, Within, operator_named};
-pub use part::{Part, part_of};
+pub use part::{Part, bad, part_of};
 pub use reader::{Head, Reader, signature_of};
 pub use seen::{Seen, is_same};
 pub use word::{is_free, is_reserved, is_symbol, is_word, sort_of};
