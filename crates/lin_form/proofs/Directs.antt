@@ -9,7 +9,7 @@ use Rattle.lin_truth.specs.Value.{zero_value, one_value, v_neg, v_plus, v_minus,
 use Rattle.lin_truth.specs.Term.{Term, Terms, amount, negative, absolute, minus, quotient_of, div_of, mod_of, plus_of, times_of, no_term, term_and}
 use Rattle.lin_truth.specs.Constant.{is_constant, are_constant}
 use Rattle.lin_form.specs.declared.scope.Bound.{Bound}
-use Rattle.lin_form.specs.Lin.{Lin, reduced, lin_plus, lin_neg, lin_minus, lin_times}
+use Rattle.lin_form.specs.Lin.{Lin, reduced, lin_plus, lin_neg, lin_minus, lin_times, lin_over}
 use Rattle.lin_form.specs.Low.{as_lin, lowest, low, low_sum, low_product, steps, sum_steps, product_steps}
 use Rattle.lin_form.specs.Direct.{direct, direct_sum, direct_product, made, made_sum, made_product}
 
@@ -106,6 +106,12 @@ made_minus a b ctx =
     ∙ sym (ap₂ (λ (xs ys : List Lin). xs ++ ys) (constant_made a ctx (and_left (is_constant a) (is_constant b) h))
     (ap₂ (λ (ys : List Lin) (x : Lin). ys ++ x ∷ []) (constant_made b ctx (and_right (is_constant a) (is_constant b) h)) (minus_both a b ctx h))))
     (λ h. cond-false (is_constant a && is_constant b) (steps (minus a b)) (made a ctx ++ (made b ctx ++ lin_minus (direct a ctx) (direct b ctx) ∷ [])) h)
+
+pub direct_over : (a b : Term) (ctx : List Bound) → is_constant a && is_constant b ≡ false → direct (quotient_of a b) ctx ≡ lin_over (direct a ctx) (low b)
+direct_over a b ctx h = cond-false (is_constant a && is_constant b) (as_lin (low (quotient_of a b))) (lin_over (direct a ctx) (low b)) h
+
+pub made_over : (a b : Term) (ctx : List Bound) → is_constant a && is_constant b ≡ false → made (quotient_of a b) ctx ≡ made a ctx ++ (steps b ++ lin_over (direct a ctx) (low b) ∷ [])
+made_over a b ctx h = cond-false (is_constant a && is_constant b) (steps (quotient_of a b)) (made a ctx ++ (steps b ++ lin_over (direct a ctx) (low b) ∷ [])) h
 
 -- ---- sums and products
 

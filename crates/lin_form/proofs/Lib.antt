@@ -6,3 +6,4 @@ pub mod Trees
 pub mod Directs
 pub mod Forming
 pub mod Constants
+pub mod Lists

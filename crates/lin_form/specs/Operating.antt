@@ -6,11 +6,6 @@ use Rattle.lin_truth.specs.Value.{v_abs, v_over, v_div, v_mod}
 use Rattle.lin_form.specs.Lin.{Lin, lin_plus, lin_minus, lin_times}
 use Rattle.lin_form.specs.Low.{as_lin, lowest}
 
-abbrev pub operation : Operation → Lin → Lin → Lin
-operation operations.Plus x y = lin_plus x y
-operation operations.Minus x y = lin_minus x y
-operation operations.Times x y = lin_times x y
-
 -- the value of a form without variables
 abbrev pub value_of : Lin → Value
 value_of x = record { num = x.form.constant; den = x.den }
@@ -26,3 +21,11 @@ remainder_lin x y = as_lin (lowest (v_mod (value_of x) (value_of y)))
 
 abbrev pub quotient_lin : Lin → Lin → Lin
 quotient_lin x y = as_lin (lowest (v_over (value_of x) (value_of y)))
+
+abbrev pub operation : Operation → Lin → Lin → Lin
+operation operations.Plus x y = lin_plus x y
+operation operations.Minus x y = lin_minus x y
+operation operations.Times x y = lin_times x y
+operation operations.Over x y = quotient_lin x y
+operation operations.Whole x y = whole_lin x y
+operation operations.Rest x y = remainder_lin x y

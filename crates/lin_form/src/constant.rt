@@ -7,10 +7,10 @@ ghost use Rattle.lin_form.specs.Lin.{Lin};
 ghost use Rattle.lin_form.specs.Low.{as_lin, low, low_sum, low_product, steps, sum_steps, product_steps};
 ghost use Rattle.lin_form.specs.Outcome.{Formed};
 
-use crate::direct::number;
 use crate::fault::FormFault;
 use crate::form::LinForm;
-use crate::step::{Operation, absolute, divided, negated, operated, remainder, stepped, whole};
+use crate::leaf::number;
+use crate::step::{Operation, absolute, negated, operated, stepped};
 use lin_term::Row;
 use lin_truth::Term;
 use std::alloc::Global;
@@ -38,17 +38,17 @@ pub fn constant_form(alloc: Global, term: &Term) -> Result<LinForm, FormFault>
         Term::Quotient(a, b) => {
             let x = constant_form(alloc, a.get());
             let y = constant_form(alloc, b.get());
-            divided(alloc, x, y)
+            operated(alloc, Operation::Over, x, y)
         }
         Term::Div(a, b) => {
             let x = constant_form(alloc, a.get());
             let y = constant_form(alloc, b.get());
-            whole(alloc, x, y)
+            operated(alloc, Operation::Whole, x, y)
         }
         Term::Mod(a, b) => {
             let x = constant_form(alloc, a.get());
             let y = constant_form(alloc, b.get());
-            remainder(alloc, x, y)
+            operated(alloc, Operation::Rest, x, y)
         }
         Term::Plus(ts) => constant_sum(alloc, ts.as_slice()),
         Term::Times(ts) => constant_product(alloc, ts.as_slice()),

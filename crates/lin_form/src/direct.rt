@@ -1,51 +1,85 @@
-//! Terms without a choice, worked out by loops.
+//! Terms without a choice, worked out without lists of cases.
 
-ghost use Rattle.std.specs.Prelude.{◌≡◌, ◌<◌, ◌≤◌, ◌^◌, ℕ, ℤ, nat_abs, List, ◌++◌, ◌∷◌, []};
-ghost use Rattle.lin_truth.specs.View.{den_of, tree_of, trees_of};
-ghost use Rattle.lin_form.specs.Direct.{direct as direct_of, direct_sum, direct_product, made, made_sum, made_product};
-ghost use Rattle.lin_form.specs.Lin.{Lin, lin_variable, lin_constant};
+ghost use Rattle.std.specs.Prelude.{◌≡◌};
+ghost use Rattle.lin_truth.specs.View.{tree_of, trees_of};
+ghost use Rattle.lin_truth.specs.Value.{zero_value, one_value};
+ghost use Rattle.lin_form.specs.Direct.{direct as direct_lin, direct_sum as sum_lin, direct_product as product_lin, made, made_sum, made_product};
+ghost use Rattle.lin_form.specs.Low.{as_lin};
 ghost use Rattle.lin_form.specs.Outcome.{Formed};
-ghost use Rattle.lin_form.specs.Scope.{level_at};
 
+use crate::constant::constant_form;
 use crate::fault::FormFault;
-use crate::form::{LinForm, lowest_value};
+use crate::form::LinForm;
+use crate::kinds::is_constant;
+use crate::leaf::{level_of, number, variable};
 use crate::scope::Bound;
+use crate::step::{Operation, negated, operated, quotient, stepped};
 use lin_term::Row;
-use smallvec::SmallVec;
+use lin_truth::Term;
 use std::alloc::Global;
 
-/// Levels stay below this number: a prefix has at most 1,024 variables.
-const LEVELS: u32 = 1_048_576;
-
-/// The level of the variable at a place.
-pub fn level_of(ctx: &[Bound], place: u32) -> u32
-    ensures { result ≡ level_at ctx.now place }
+/// The form of a term without a choice, in a scope; of any other term the answer is want of memory.
+#[cycle(direct_form)]
+pub fn direct_form(alloc: Global, ctx: &[Bound], term: &Term) -> Result<LinForm, FormFault>
+    ensures { Formed (made (tree_of term.now) ctx.now) (direct_lin (tree_of term.now) ctx.now) result }
 {
-    match ctx.get(place as usize) {
-        Some(bound) => bound.level,
-        None => 0,
+    match term {
+        Term::Number { num, den } => number(alloc, *num, *den),
+        Term::Var(i) => variable(alloc, level_of(ctx, *i)),
+        Term::Negative(t) => {
+            let x = direct_form(alloc, ctx, t.get());
+            negated(alloc, x)
+        }
+        Term::Minus(a, b) => {
+            let x = direct_form(alloc, ctx, a.get());
+            let y = direct_form(alloc, ctx, b.get());
+            operated(alloc, Operation::Minus, x, y)
+        }
+        Term::Quotient(a, b) => {
+            if is_constant(term) {
+                return constant_form(alloc, term);
+            }
+            let x = direct_form(alloc, ctx, a.get());
+            let y = constant_form(alloc, b.get());
+            quotient(alloc, x, y)
+        }
+        Term::Plus(ts) => direct_sum(alloc, ctx, ts.as_slice()),
+        Term::Times(ts) => direct_product(alloc, ctx, ts.as_slice()),
+        Term::Abs(_) => constant_form(alloc, term),
+        Term::Div(_, _) => constant_form(alloc, term),
+        Term::Mod(_, _) => constant_form(alloc, term),
+        _ => Err(FormFault::Memory),
     }
 }
 
-/// The form of the variable at a level below 2^20; past it the answer is want of memory.
-pub fn variable(alloc: Global, level: u32) -> Result<LinForm, FormFault>
-    ensures { Formed (lin_variable level ∷ []) (lin_variable level) result }
+/// The sum from left to right.
+#[cycle(direct_form)]
+fn direct_sum(alloc: Global, ctx: &[Bound], terms: &[Term]) -> Result<LinForm, FormFault>
+    ensures { Formed (made_sum (trees_of terms.now) ctx.now (as_lin zero_value)) (sum_lin (trees_of terms.now) ctx.now (as_lin zero_value)) result }
 {
-    if level >= LEVELS {
-        return Err(FormFault::Memory);
+    let mut total = LinForm::whole(Row::constant(alloc, 0));
+    for term in terms {
+        let next = direct_form(alloc, ctx, term);
+        total = match stepped(alloc, Operation::Plus, &total, next) {
+            Ok(total) => total,
+            Err(fault) => return Err(fault),
+        };
     }
-    let mut coefs = SmallVec::new(alloc);
-    coefs.push((level, 1))?;
-    Ok(LinForm::whole(Row::from_parts(coefs, 0)))
+    Ok(total)
 }
 
-/// The form of a number. A denominator is 1 or more; at 0 and below the answer is want of memory.
-pub(crate) fn number(alloc: Global, num: i64, den: i64) -> Result<LinForm, FormFault>
-    ensures { let lin : Lin = lin_constant (record { num = num; den = den_of den }) in
-        Formed (lin ∷ []) lin result }
+/// The product from left to right.
+#[cycle(direct_form)]
+fn direct_product(alloc: Global, ctx: &[Bound], terms: &[Term]) -> Result<LinForm, FormFault>
+    ensures { Formed (made_product (trees_of terms.now) ctx.now (as_lin one_value)) (product_lin (trees_of terms.now) ctx.now (as_lin one_value)) result }
 {
-    if den <= 0 {
-        return Err(FormFault::Memory);
+    let mut total = LinForm::whole(Row::constant(alloc, 1));
+    for term in terms {
+        let next = direct_form(alloc, ctx, term);
+        total = match stepped(alloc, Operation::Times, &total, next) {
+            Ok(total) => total,
+            Err(fault) => return Err(fault),
+        };
     }
-    lowest_value(alloc, num as i128, den as u128)
+    Ok(total)
 }

@@ -6,15 +6,15 @@ mod direct;
 mod fault;
 mod form;
 mod kinds;
+mod leaf;
 mod scope;
 mod step;
-#[cfg(test)]
-mod tests;
 
 pub use constant::constant_form;
-pub use direct::{level_of, variable};
+pub use direct::direct_form;
 pub use fault::FormFault;
 pub use form::{LinForm, lowest_value, minus, negative, plus, scaled, times};
 pub use kinds::{all_constant, is_constant, is_direct};
+pub use leaf::{level_of, variable};
 pub use scope::Bound;
-pub use step::{Operation, absolute, divided, negated, operated, over, remainder, stepped, whole};
+pub use step::{Operation, absolute, negated, operated, over, stepped};

@@ -14,14 +14,21 @@ use crate::form::{LinForm, lowest_value, minus, negative, plus, scaled, times};
 use lin_term::product;
 use std::alloc::Global;
 
-/// What is done with two forms.
+/// What is done with two forms. The last three take forms without variables.
 #[derive(Clone, Copy, Debug, PartialEq, Eq, Drop)]
 pub enum Operation {
     Plus,
     Minus,
     Times,
+    /// The quotient.
+    Over,
+    /// The whole q with a = n*q + r and 0 <= r < |n|.
+    Whole,
+    /// The r of the same.
+    Rest,
 }
 
+/// The form that an operation makes of two.
 fn operate(alloc: Global, op: Operation, x: &LinForm, y: &LinForm) -> Result<LinForm, FormFault>
     ensures { let lin : Lin = operation_of op x.now y.now in
         Formed (lin ∷ []) lin result }
@@ -30,10 +37,13 @@ fn operate(alloc: Global, op: Operation, x: &LinForm, y: &LinForm) -> Result<Lin
         Operation::Plus => plus(alloc, x, y),
         Operation::Minus => minus(alloc, x, y),
         Operation::Times => times(alloc, x, y),
+        Operation::Over => quotient_form(alloc, x, y),
+        Operation::Whole => whole_form(alloc, x, y),
+        Operation::Rest => remainder_form(alloc, x, y),
     }
 }
 
-/// A sum, a difference or a product.
+/// The same, of forms that were worked out before.
 pub fn operated(
     alloc: Global,
     op: Operation,
@@ -85,6 +95,25 @@ pub fn over(alloc: Global, x: &LinForm, y: &LinForm) -> Result<LinForm, FormFaul
     }
 }
 
+/// The quotient of a form and one without variables that were worked out before.
+pub(crate) fn quotient(
+    alloc: Global,
+    x: Result<LinForm, FormFault>,
+    y: Result<LinForm, FormFault>,
+) -> Result<LinForm, FormFault>
+    ensures { (xs ys : List Lin) (v w : Lin) → Formed xs v x → Formed ys w y → Formed (xs ++ (ys ++ lin_over v (value_of w) ∷ [])) (lin_over v (value_of w)) result }
+{
+    let x = match x {
+        Ok(x) => x,
+        Err(fault) => return Err(fault),
+    };
+    let y = match y {
+        Ok(y) => y,
+        Err(fault) => return Err(fault),
+    };
+    over(alloc, &x, &y)
+}
+
 /// The quotient of two forms without variables; by 0, which no goal has, the answer is want of memory.
 fn quotient_form(alloc: Global, x: &LinForm, y: &LinForm) -> Result<LinForm, FormFault>
     ensures { let lin : Lin = quotient_lin x.now y.now in
@@ -100,25 +129,6 @@ fn quotient_form(alloc: Global, x: &LinForm, y: &LinForm) -> Result<LinForm, For
     } else {
         Err(FormFault::Memory)
     }
-}
-
-/// The quotient of two constant terms.
-pub fn divided(
-    alloc: Global,
-    x: Result<LinForm, FormFault>,
-    y: Result<LinForm, FormFault>,
-) -> Result<LinForm, FormFault>
-    ensures { (xs ys : List Lin) (v w : Lin) → Formed xs v x → Formed ys w y → Formed (xs ++ (ys ++ quotient_lin v w ∷ [])) (quotient_lin v w) result }
-{
-    let x = match x {
-        Ok(x) => x,
-        Err(fault) => return Err(fault),
-    };
-    let y = match y {
-        Ok(y) => y,
-        Err(fault) => return Err(fault),
-    };
-    quotient_form(alloc, &x, &y)
 }
 
 /// The negative.
@@ -190,42 +200,4 @@ fn remainder_form(alloc: Global, x: &LinForm, y: &LinForm) -> Result<LinForm, Fo
     let whole = product(y.constant(), quotient);
     let rest = x.constant() as i128 - whole;
     lowest_value(alloc, rest, 1)
-}
-
-/// The whole quotient of two constant terms.
-pub fn whole(
-    alloc: Global,
-    x: Result<LinForm, FormFault>,
-    y: Result<LinForm, FormFault>,
-) -> Result<LinForm, FormFault>
-    ensures { (xs ys : List Lin) (v w : Lin) → Formed xs v x → Formed ys w y → Formed (xs ++ (ys ++ whole_lin v w ∷ [])) (whole_lin v w) result }
-{
-    let x = match x {
-        Ok(x) => x,
-        Err(fault) => return Err(fault),
-    };
-    let y = match y {
-        Ok(y) => y,
-        Err(fault) => return Err(fault),
-    };
-    whole_form(alloc, &x, &y)
-}
-
-/// The remainder of two constant terms.
-pub fn remainder(
-    alloc: Global,
-    x: Result<LinForm, FormFault>,
-    y: Result<LinForm, FormFault>,
-) -> Result<LinForm, FormFault>
-    ensures { (xs ys : List Lin) (v w : Lin) → Formed xs v x → Formed ys w y → Formed (xs ++ (ys ++ remainder_lin v w ∷ [])) (remainder_lin v w) result }
-{
-    let x = match x {
-        Ok(x) => x,
-        Err(fault) => return Err(fault),
-    };
-    let y = match y {
-        Ok(y) => y,
-        Err(fault) => return Err(fault),
-    };
-    remainder_form(alloc, &x, &y)
 }

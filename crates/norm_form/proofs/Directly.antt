@@ -117,6 +117,37 @@ keep_twice : {A : Type 0} (a b : Bool) (x : Option A) → keep_if a (keep_if b x
 keep_twice {A} true b x = refl
 keep_twice {A} false b x = refl
 
+-- ---- a constant term has no choice
+
+both_true : (a b : Bool) → a ≡ true → b ≡ true → a && b ≡ true
+both_true true b h k = k
+both_true false b h k = h
+
+mutual
+  constant_is_direct : (t : Term) → is_constant t ≡ true → is_direct t ≡ true
+  constant_is_direct (amount v) h = refl
+  constant_is_direct (negative t) h = constant_is_direct t h
+  constant_is_direct (absolute t) h = h
+  constant_is_direct (minus a b) h = both_true (is_direct a) (is_direct b) (constant_is_direct a (left_true (is_constant a) (is_constant b) h)) (constant_is_direct b (right_true (is_constant a) (is_constant b) h))
+  constant_is_direct (quotient_of a b) h = constant_is_direct a (left_true (is_constant a) (is_constant b) h)
+  constant_is_direct (div_of a b) h = h
+  constant_is_direct (mod_of a b) h = h
+  constant_is_direct (plus_of ts) h = constants_are_direct ts h
+  constant_is_direct (times_of ts) h = constants_are_direct ts h
+  constant_is_direct t h = absurd (false_is_true h)
+
+  constants_are_direct : (ts : Terms) → are_constant ts ≡ true → are_direct ts ≡ true
+  constants_are_direct no_term h = refl
+  constants_are_direct (term_and t ts) h =
+      both_true (is_direct t) (are_direct ts) (constant_is_direct t (left_true (is_constant t) (are_constant ts) h)) (constants_are_direct ts (right_true (is_constant t) (are_constant ts) h))
+
+by_constant : (b : Bool) (t : Term) → is_constant t ≡ b → is_direct t ≡ false → b ≡ false
+by_constant true t e h = absurd (false_is_true (sym h ∙ constant_is_direct t e))
+by_constant false t e h = refl
+
+pub not_direct_not_constant : (t : Term) → is_direct t ≡ false → is_constant t ≡ false
+not_direct_not_constant t h = by_constant (is_constant t) t refl h
+
 normal_chained : Chained normal_maker
 normal_chained = record { none = λ r. refl; after = λ xs ys r. refl }
 

@@ -2,7 +2,7 @@
 use Rattle.std.specs.Prelude.{ℕ, suc, ◌≡◌, Bool, true, false, ◌&&◌, List, [], ◌∷◌, ◌++◌, map, Option, None, Some, Result, Ok, Err}
 use Rattle.std.proofs.Common.{ap, ◌∙◌, sym, subst, refl}
 use Rattle.lin_term.specs.declared.Sort.{Sort}
-use Rattle.lin_truth.specs.Term.{Term, Terms, amount, negative, absolute, minus, quotient_of, div_of, mod_of, equal, ite, plus_of, times_of, no_term, term_and}
+use Rattle.lin_truth.specs.Term.{Term, Terms, negative, absolute, minus, quotient_of, div_of, mod_of, equal, ite, plus_of, times_of, no_term, term_and}
 use Rattle.lin_truth.specs.Value.{zero_value, one_value}
 use Rattle.lin_truth.specs.Constant.{is_constant, are_constant}
 use Rattle.lin_form.specs.declared.Bound.{Bound}
@@ -23,6 +23,8 @@ use Rattle.lin_truth.specs.Truth.{is_formula}
 use Rattle.lin_form.specs.Scope.{bound_sort}
 use Rattle.norm_form.specs.Pairing.{other_part, paired_form}
 use Rattle.norm_form.specs.View.{shape_of, shapes_of, IsBuilt}
+use Rattle.lin_form.specs.Direct.{is_direct, direct, made}
+use Rattle.norm_form.proofs.Directly.{capped_direct, not_direct_not_constant}
 use Rattle.norm_form.proofs.Running.{none_one}
 use Rattle.norm_form.proofs.Shapes.{push_part, shapes_push}
 
@@ -36,18 +38,6 @@ lin_then {R} b x d k n h = ap (λ (t : Bool). glin_of t x d k n) h
 
 false_true : false ≡ true → ⊥
 false_true h = absurd (cc)
-
-pub constant_lin : (t : Term) (s : Sort) (ctx : List Bound) (d : ℕ) (k : ℕ → Lin → Option Normal) → is_constant t ≡ true → capped_maker.formed (steps t) (k d (as_lin (low t))) ≡ glin capped_maker t s ctx d k
-constant_lin (amount v) s ctx d k h = refl
-constant_lin (negative t) s ctx d k h = sym (lin_then (is_constant t) (as_lin (low (negative t))) d (λ e y. capped_maker.formed (steps (negative t)) (k e y)) _ h)
-constant_lin (absolute t) s ctx d k h = sym (lin_then (is_constant t) (as_lin (low (absolute t))) d (λ e y. capped_maker.formed (steps (absolute t)) (k e y)) _ h)
-constant_lin (minus a b) s ctx d k h = sym (lin_then (is_constant a && is_constant b) (as_lin (low (minus a b))) d (λ e y. capped_maker.formed (steps (minus a b)) (k e y)) _ h)
-constant_lin (quotient_of a b) s ctx d k h = sym (lin_then (is_constant a && is_constant b) (as_lin (low (quotient_of a b))) d (λ e y. capped_maker.formed (steps (quotient_of a b)) (k e y)) _ h)
-constant_lin (div_of a b) s ctx d k h = sym (lin_then (is_constant a && is_constant b) (as_lin (low (div_of a b))) d (λ e y. capped_maker.formed (steps (div_of a b)) (k e y)) _ h)
-constant_lin (mod_of a b) s ctx d k h = sym (lin_then (is_constant a && is_constant b) (as_lin (low (mod_of a b))) d (λ e y. capped_maker.formed (steps (mod_of a b)) (k e y)) _ h)
-constant_lin (plus_of ts) s ctx d k h = sym (lin_then (are_constant ts) (as_lin (low_sum ts zero_value)) d (λ e y. capped_maker.formed (steps (plus_of ts)) (k e y)) _ h)
-constant_lin (times_of ts) s ctx d k h = sym (lin_then (are_constant ts) (as_lin (low_product ts one_value)) d (λ e y. capped_maker.formed (steps (times_of ts)) (k e y)) _ h)
-constant_lin t s ctx d k h = absurd (false_true h)
 
 pub cases_same : (g h : (ℕ → Lin → Option Normal) → Option Normal) (r : Result (List Case) FormFault) → ((k : ℕ → Lin → Option Normal) → g k ≡ h k) → AreCases g r → AreCases h r
 cases_same g h (Ok cs) e a = λ k rs. a k rs ∙ ap (λ (o : Option Normal). o ∷ rs) (e k)
@@ -140,54 +130,55 @@ keep_and false b o = refl
 kept_split : (xs ys : List Lin) (o : Option Normal) → capped_maker.formed xs (capped_maker.formed ys o) ≡ capped_maker.formed (xs ++ ys) o
 kept_split xs ys o = keep_and (within (lins_numbers xs)) (within (lins_numbers ys)) o ∙ ap (λ (b : Bool). keep_if b o) (sym (within_both xs ys))
 
-pub constant_cases : (T : Term) (s : Sort) (ctx : List Bound) (d : ℕ) (r : Result (List Case) FormFault) → is_constant T ≡ true → AreCases (λ k. capped_maker.formed (steps T) (k d (as_lin (low T)))) r → AreCases (λ k. glin capped_maker T s ctx d k) r
-constant_cases T s ctx d r h a = cases_same (λ k. capped_maker.formed (steps T) (k d (as_lin (low T)))) (λ k. glin capped_maker T s ctx d k) r (λ k. constant_lin T s ctx d k h) a
+-- the one case of a term without a choice
+pub direct_cases : (T : Term) (s : Sort) (ctx : List Bound) (d : ℕ) (r : Result (List Case) FormFault) → is_direct T ≡ true → AreCases (λ k. capped_maker.formed (made T ctx) (k d (direct T ctx))) r → AreCases (λ k. glin capped_maker T s ctx d k) r
+direct_cases T s ctx d r h a = cases_same (λ k. capped_maker.formed (made T ctx) (k d (direct T ctx))) (λ k. glin capped_maker T s ctx d k) r (λ k. sym (capped_direct T s ctx d k h)) a
 
-not_constant : (T U : Term) → T ≡ U → is_constant T ≡ false → is_constant U ≡ false
-not_constant T U e h = ap is_constant (sym e) ∙ h
+not_constant : (T U : Term) → T ≡ U → is_direct T ≡ false → is_constant U ≡ false
+not_constant T U e h = ap is_constant (sym e) ∙ not_direct_not_constant T h
 
-pub negative_cases : (T A : Term) (s : Sort) (ctx : List Bound) (d : ℕ) (r : Result (List Case) FormFault) → T ≡ negative A → is_constant T ≡ false → AreCases (λ k. glin capped_maker A s ctx d (λ e x. capped_maker.formed (lin_neg x ∷ []) (k e (lin_neg x)))) r → AreCases (λ k. glin capped_maker T s ctx d k) r
+pub negative_cases : (T A : Term) (s : Sort) (ctx : List Bound) (d : ℕ) (r : Result (List Case) FormFault) → T ≡ negative A → is_direct T ≡ false → AreCases (λ k. glin capped_maker A s ctx d (λ e x. capped_maker.formed (lin_neg x ∷ []) (k e (lin_neg x)))) r → AreCases (λ k. glin capped_maker T s ctx d k) r
 negative_cases T A s ctx d r e h a =
     subst (λ (u : Term). AreCases (λ k. glin capped_maker u s ctx d k) r) (sym e)
     (choose_cases (is_constant A) (as_lin (low (negative A))) d (λ k e y. capped_maker.formed (steps (negative A)) (k e y)) _ r (not_constant T (negative A) e h) a)
 
-pub absolute_cases : (T A : Term) (s : Sort) (ctx : List Bound) (d : ℕ) (r : Result (List Case) FormFault) → T ≡ absolute A → is_constant T ≡ false → AreCases (λ k. glin capped_maker A s ctx d (λ e x. capped_maker.abs_form s x (k e x) (capped_maker.formed (lin_neg x ∷ []) (k e (lin_neg x))))) r → AreCases (λ k. glin capped_maker T s ctx d k) r
+pub absolute_cases : (T A : Term) (s : Sort) (ctx : List Bound) (d : ℕ) (r : Result (List Case) FormFault) → T ≡ absolute A → is_direct T ≡ false → AreCases (λ k. glin capped_maker A s ctx d (λ e x. capped_maker.abs_form s x (k e x) (capped_maker.formed (lin_neg x ∷ []) (k e (lin_neg x))))) r → AreCases (λ k. glin capped_maker T s ctx d k) r
 absolute_cases T A s ctx d r e h a =
     subst (λ (u : Term). AreCases (λ k. glin capped_maker u s ctx d k) r) (sym e)
     (choose_cases (is_constant A) (as_lin (low (absolute A))) d (λ k e y. capped_maker.formed (steps (absolute A)) (k e y)) _ r (not_constant T (absolute A) e h) a)
 
-pub minus_cases : (T A B : Term) (s : Sort) (ctx : List Bound) (d : ℕ) (r : Result (List Case) FormFault) → T ≡ minus A B → is_constant T ≡ false → AreCases (λ k. glin capped_maker A s ctx d (λ e x. glin capped_maker B s ctx e (λ f y. capped_maker.formed (lin_minus x y ∷ []) (k f (lin_minus x y))))) r → AreCases (λ k. glin capped_maker T s ctx d k) r
+pub minus_cases : (T A B : Term) (s : Sort) (ctx : List Bound) (d : ℕ) (r : Result (List Case) FormFault) → T ≡ minus A B → is_direct T ≡ false → AreCases (λ k. glin capped_maker A s ctx d (λ e x. glin capped_maker B s ctx e (λ f y. capped_maker.formed (lin_minus x y ∷ []) (k f (lin_minus x y))))) r → AreCases (λ k. glin capped_maker T s ctx d k) r
 minus_cases T A B s ctx d r e h a =
     subst (λ (u : Term). AreCases (λ k. glin capped_maker u s ctx d k) r) (sym e)
     (choose_cases (is_constant A && is_constant B) (as_lin (low (minus A B))) d (λ k e y. capped_maker.formed (steps (minus A B)) (k e y)) _ r (not_constant T (minus A B) e h) a)
 
-pub quotient_cases : (T A B : Term) (s : Sort) (ctx : List Bound) (d : ℕ) (r : Result (List Case) FormFault) → T ≡ quotient_of A B → is_constant T ≡ false → AreCases (λ k. glin capped_maker A s ctx d (λ e x. capped_maker.formed (steps B) (divided divisions.Over (as_lin (low B)) s k e x))) r → AreCases (λ k. glin capped_maker T s ctx d k) r
+pub quotient_cases : (T A B : Term) (s : Sort) (ctx : List Bound) (d : ℕ) (r : Result (List Case) FormFault) → T ≡ quotient_of A B → is_direct T ≡ false → AreCases (λ k. glin capped_maker A s ctx d (λ e x. capped_maker.formed (steps B) (divided divisions.Over (as_lin (low B)) s k e x))) r → AreCases (λ k. glin capped_maker T s ctx d k) r
 quotient_cases T A B s ctx d r e h a =
     subst (λ (u : Term). AreCases (λ k. glin capped_maker u s ctx d k) r) (sym e)
     (choose_cases (is_constant A && is_constant B) (as_lin (low (quotient_of A B))) d (λ k e y. capped_maker.formed (steps (quotient_of A B)) (k e y)) (λ k. glin capped_maker A s ctx d (λ e x. capped_maker.formed (steps B ++ lin_over x (low B) ∷ []) (k e (lin_over x (low B))))) r (not_constant T (quotient_of A B) e h)
     (cases_same (λ k. glin capped_maker A s ctx d (λ e x. capped_maker.formed (steps B) (divided divisions.Over (as_lin (low B)) s k e x))) _ r
     (λ k. ap (glin capped_maker A s ctx d) (fun_same _ _ (λ e x. kept_split (steps B) (lin_over x (low B) ∷ []) (k e (lin_over x (low B)))))) a))
 
-pub div_cases : (T A B : Term) (s : Sort) (ctx : List Bound) (d : ℕ) (r : Result (List Case) FormFault) → T ≡ div_of A B → is_constant T ≡ false → AreCases (λ k. glin capped_maker A s ctx d (λ e x. capped_maker.formed (steps B) (divided divisions.Whole (as_lin (low B)) s k e x))) r → AreCases (λ k. glin capped_maker T s ctx d k) r
+pub div_cases : (T A B : Term) (s : Sort) (ctx : List Bound) (d : ℕ) (r : Result (List Case) FormFault) → T ≡ div_of A B → is_direct T ≡ false → AreCases (λ k. glin capped_maker A s ctx d (λ e x. capped_maker.formed (steps B) (divided divisions.Whole (as_lin (low B)) s k e x))) r → AreCases (λ k. glin capped_maker T s ctx d k) r
 div_cases T A B s ctx d r e h a =
     subst (λ (u : Term). AreCases (λ k. glin capped_maker u s ctx d k) r) (sym e)
     (choose_cases (is_constant A && is_constant B) (as_lin (low (div_of A B))) d (λ k e y. capped_maker.formed (steps (div_of A B)) (k e y)) (λ k. glin capped_maker A s ctx d (λ e x. capped_maker.formed (steps B ++ div_forms (low B).num x e) (capped_maker.div_form s (low B).num x e (k (suc e) (lin_variable e))))) r (not_constant T (div_of A B) e h)
     (cases_same (λ k. glin capped_maker A s ctx d (λ e x. capped_maker.formed (steps B) (divided divisions.Whole (as_lin (low B)) s k e x))) _ r
     (λ k. ap (glin capped_maker A s ctx d) (fun_same _ _ (λ e x. kept_split (steps B) (div_forms (low B).num x e) (capped_maker.div_form s (low B).num x e (k (suc e) (lin_variable e)))))) a))
 
-pub mod_cases : (T A B : Term) (s : Sort) (ctx : List Bound) (d : ℕ) (r : Result (List Case) FormFault) → T ≡ mod_of A B → is_constant T ≡ false → AreCases (λ k. glin capped_maker A s ctx d (λ e x. capped_maker.formed (steps B) (divided divisions.Rest (as_lin (low B)) s k e x))) r → AreCases (λ k. glin capped_maker T s ctx d k) r
+pub mod_cases : (T A B : Term) (s : Sort) (ctx : List Bound) (d : ℕ) (r : Result (List Case) FormFault) → T ≡ mod_of A B → is_direct T ≡ false → AreCases (λ k. glin capped_maker A s ctx d (λ e x. capped_maker.formed (steps B) (divided divisions.Rest (as_lin (low B)) s k e x))) r → AreCases (λ k. glin capped_maker T s ctx d k) r
 mod_cases T A B s ctx d r e h a =
     subst (λ (u : Term). AreCases (λ k. glin capped_maker u s ctx d k) r) (sym e)
     (choose_cases (is_constant A && is_constant B) (as_lin (low (mod_of A B))) d (λ k e y. capped_maker.formed (steps (mod_of A B)) (k e y)) (λ k. glin capped_maker A s ctx d (λ e x. capped_maker.formed (steps B ++ div_forms (low B).num x e) (capped_maker.div_form s (low B).num x e (k (suc e) (lin_minus x (multiple (low B).num e)))))) r (not_constant T (mod_of A B) e h)
     (cases_same (λ k. glin capped_maker A s ctx d (λ e x. capped_maker.formed (steps B) (divided divisions.Rest (as_lin (low B)) s k e x))) _ r
     (λ k. ap (glin capped_maker A s ctx d) (fun_same _ _ (λ e x. kept_split (steps B) (div_forms (low B).num x e) (capped_maker.div_form s (low B).num x e (k (suc e) (lin_minus x (multiple (low B).num e))))))) a))
 
-pub plus_cases : (T : Term) (ts : Terms) (s : Sort) (ctx : List Bound) (d : ℕ) (r : Result (List Case) FormFault) → T ≡ plus_of ts → is_constant T ≡ false → AreCases (λ k. glin_sum capped_maker ts s ctx d (as_lin zero_value) k) r → AreCases (λ k. glin capped_maker T s ctx d k) r
+pub plus_cases : (T : Term) (ts : Terms) (s : Sort) (ctx : List Bound) (d : ℕ) (r : Result (List Case) FormFault) → T ≡ plus_of ts → is_direct T ≡ false → AreCases (λ k. glin_sum capped_maker ts s ctx d (as_lin zero_value) k) r → AreCases (λ k. glin capped_maker T s ctx d k) r
 plus_cases T ts s ctx d r e h a =
     subst (λ (u : Term). AreCases (λ k. glin capped_maker u s ctx d k) r) (sym e)
     (choose_cases (are_constant ts) (as_lin (low_sum ts zero_value)) d (λ k e y. capped_maker.formed (steps (plus_of ts)) (k e y)) _ r (not_constant T (plus_of ts) e h) a)
 
-pub times_cases : (T : Term) (ts : Terms) (s : Sort) (ctx : List Bound) (d : ℕ) (r : Result (List Case) FormFault) → T ≡ times_of ts → is_constant T ≡ false → AreCases (λ k. glin_product capped_maker ts s ctx d (as_lin one_value) k) r → AreCases (λ k. glin capped_maker T s ctx d k) r
+pub times_cases : (T : Term) (ts : Terms) (s : Sort) (ctx : List Bound) (d : ℕ) (r : Result (List Case) FormFault) → T ≡ times_of ts → is_direct T ≡ false → AreCases (λ k. glin_product capped_maker ts s ctx d (as_lin one_value) k) r → AreCases (λ k. glin capped_maker T s ctx d k) r
 times_cases T ts s ctx d r e h a =
     subst (λ (u : Term). AreCases (λ k. glin capped_maker u s ctx d k) r) (sym e)
     (choose_cases (are_constant ts) (as_lin (low_product ts one_value)) d (λ k e y. capped_maker.formed (steps (times_of ts)) (k e y)) _ r (not_constant T (times_of ts) e h) a)

@@ -15,6 +15,7 @@ ghost use Rattle.lin_term.specs.declared.Lit.TheVariants.{AtLeast};
 
 use crate::bounds::bounds_of;
 use crate::branches::{Case, LEVELS, one, righted};
+use crate::connective::Contraries;
 use crate::literal::{Signs, both_signs};
 use crate::normal::Normal;
 use lin_form::{FormFault, LinForm, minus, negative, over, plus, times, variable};
@@ -281,17 +282,17 @@ pub(crate) fn divided_cases(
     }
 }
 
-/// One of two forms, by a test that was worked out with its negation, in reversed order.
+/// One of two forms, by a test, in reversed order.
 pub(crate) fn pair_cases(
     alloc: Global,
     level: u32,
     x: LinForm,
     y: LinForm,
-    yes: Result<Normal, FormFault>,
-    no: Result<Normal, FormFault>,
+    test: Contraries,
 ) -> Result<Items<Case>, FormFault>
-    ensures { (p n : Option NormalTree) → IsBuilt p yes → IsBuilt n no → AreBack (λ k. capped_maker.ite_form p n (k level x) (k level y)) result }
+    ensures { (p n : Option NormalTree) → IsBuilt p test.yes → IsBuilt n test.no → AreBack (λ k. capped_maker.ite_form p n (k level x) (k level y)) result }
 {
+    let Contraries { yes, no } = test;
     let yes = match yes {
         Ok(yes) => yes,
         Err(fault) => return Err(fault),

@@ -3,17 +3,17 @@
 ghost use Rattle.std.specs.Prelude.{◌≡◌, ℕ, List, Bool, true, Option, Ok, [], ◌∷◌};
 ghost use Rattle.lin_form.specs.Lin.{Lin};
 ghost use Rattle.lin_term.specs.Primable.{IsPrimable};
-ghost use Rattle.norm_form.specs.Cap.{capped_maker, over2};
+ghost use Rattle.norm_form.specs.Cap.{capped_maker};
 ghost use Rattle.norm_form.specs.Cases.{AreCases, chosen, bounded, put};
 ghost use Rattle.norm_form.specs.Claim.{claimed as claimed_form, stacked_on, AreStacked};
-ghost use Rattle.norm_form.specs.Norm.{either_by};
 ghost use Rattle.norm_form.specs.Normal.{Normal as NormalTree};
 ghost use Rattle.norm_form.specs.View.{IsBuilt, shape_of};
 ghost use Rattle.norm_form.specs.declared.claim.Claim.TheVariants as claims;
 
 use crate::branches::Case;
+use crate::connective::both;
 use crate::literal::both_signs;
-use crate::normal::{Normal, between, choice, either};
+use crate::normal::{Normal, between, choice};
 use lin_form::{FormFault, LinForm, negative};
 use lin_term::{CAP, Lit, Memory, Sort};
 use sqlite_items::Items;
@@ -36,62 +36,6 @@ pub(crate) fn literal(alloc: Global, sort: Sort, truth: bool, lit: Lit) -> Resul
     match both_signs(alloc, sort, lit) {
         Ok(signs) => { if truth { Ok(signs.yes) } else { Ok(signs.no) } }
         Err(fault) => Err(fault),
-    }
-}
-
-/// Both, or one of the two.
-pub(crate) fn both(
-    alloc: Global,
-    all: bool,
-    a: Result<Normal, FormFault>,
-    b: Result<Normal, FormFault>,
-) -> Result<Normal, FormFault>
-    ensures { (x y : Option NormalTree) → IsBuilt x a → IsBuilt y b → IsBuilt (over2 (either_by all) x y) result }
-{
-    let a = match a {
-        Ok(a) => a,
-        Err(fault) => return Err(fault),
-    };
-    match b {
-        Ok(b) => Ok(either(alloc, all, a, b)?),
-        Err(fault) => Err(fault),
-    }
-}
-
-/// `a` where the test holds, else `b`; `no` is the negation of the test.
-pub(crate) fn choice_of(
-    alloc: Global,
-    yes: Result<Normal, FormFault>,
-    no: Result<Normal, FormFault>,
-    a: Result<Normal, FormFault>,
-    b: Result<Normal, FormFault>,
-) -> Result<Normal, FormFault>
-    ensures { (p n x y : Option NormalTree) → IsBuilt p yes → IsBuilt n no → IsBuilt x a → IsBuilt y b → IsBuilt (capped_maker.ite_form p n x y) result }
-{
-    let first = both(alloc, false, no, a);
-    let second = both(alloc, false, yes, b);
-    both(alloc, true, first, second)
-}
-
-/// Whether a and b are the same, or not; `n` and `m` are their negations.
-pub(crate) fn same_of(
-    alloc: Global,
-    truth: bool,
-    a: Result<Normal, FormFault>,
-    n: Result<Normal, FormFault>,
-    b: Result<Normal, FormFault>,
-    m: Result<Normal, FormFault>,
-) -> Result<Normal, FormFault>
-    ensures { (x u y w : Option NormalTree) → IsBuilt x a → IsBuilt u n → IsBuilt y b → IsBuilt w m → IsBuilt (capped_maker.same_form truth x u y w) result }
-{
-    if truth {
-        let first = both(alloc, false, n, b);
-        let second = both(alloc, false, a, m);
-        both(alloc, true, first, second)
-    } else {
-        let first = both(alloc, true, a, m);
-        let second = both(alloc, true, n, b);
-        both(alloc, false, first, second)
     }
 }
 

@@ -5,6 +5,7 @@ mod bounds;
 mod branches;
 mod change;
 mod claim;
+mod connective;
 mod count;
 mod form;
 mod literal;

@@ -15,10 +15,11 @@ ghost use Rattle.norm_form.specs.Pairing.{other_part, test_part, paired_form};
 
 use crate::branches::{Case, LEVELS, leaf_cases, one, righted};
 use crate::change::{Change, Division, Step, divided_cases, joined_back, pair_cases, turned};
-use crate::claim::{Claim, atom, both, choice_of, same_of};
+use crate::claim::{Claim, atom};
+use crate::connective::{Contraries, both, choice_of, same_of};
 use crate::normal::{Normal, closed, joined};
 use crate::scope::{is_formula_in, truth_literal, with_bound, wrapped};
-use lin_form::{Bound, FormFault, LinForm, constant_form, is_constant, level_of, variable};
+use lin_form::{Bound, FormFault, LinForm, constant_form, direct_form, is_direct, level_of};
 use lin_term::{Row, Sort};
 use lin_truth::{Term, VarSort};
 use sqlite_items::Items;
@@ -35,11 +36,10 @@ fn number(
 ) -> Result<Items<Case>, FormFault>
     ensures { AreCases (λ k. glin capped_maker (tree_of term.now) sort ctx.now level k) result }
 {
-    if is_constant(term) {
-        return leaf_cases(alloc, level, constant_form(alloc, term));
+    if is_direct(term) {
+        return leaf_cases(alloc, level, direct_form(alloc, ctx, term));
     }
     match term {
-        Term::Var(i) => leaf_cases(alloc, level, variable(alloc, level_of(ctx, *i))),
         Term::Negative(t) => {
             let x = number(alloc, sort, ctx, t.get(), level);
             turned(alloc, sort, &Change::Negative, x)
@@ -189,19 +189,16 @@ fn other(
 
 /// The test of a choice.
 #[cycle(walk)]
-fn test(
-    alloc: Global,
-    sort: Sort,
-    ctx: &[Bound],
-    term: &Term,
-    truth: bool,
-    level: u32,
-) -> Result<Normal, FormFault>
-    ensures { IsBuilt (gnorm capped_maker (test_part (tree_of term.now)) sort truth ctx.now level) result }
+fn test(alloc: Global, sort: Sort, ctx: &[Bound], term: &Term, level: u32) -> Contraries
+    ensures yes { IsBuilt (gnorm capped_maker (test_part (tree_of term.now)) sort true ctx.now level) result.yes }
+    ensures no { IsBuilt (gnorm capped_maker (test_part (tree_of term.now)) sort false ctx.now level) result.no }
 {
     match term {
-        Term::Ite(c, _, _) => formula(alloc, sort, ctx, c.get(), truth, level),
-        _ => Err(FormFault::Memory),
+        Term::Ite(c, _, _) => both_ways(alloc, sort, ctx, c.get(), level),
+        _ => Contraries {
+            yes: Err(FormFault::Memory),
+            no: Err(FormFault::Memory),
+        },
     }
 }
 
@@ -314,9 +311,20 @@ fn pair_of(
     ensures { AreBack (λ k. paired_form (tree_of term.now) sort ctx.now x.now k level y) result }
 {
     let first = x.copy(alloc)?;
-    let yes = test(alloc, sort, ctx, term, true, level);
-    let no = test(alloc, sort, ctx, term, false, level);
-    pair_cases(alloc, level, first, y, yes, no)
+    let by = test(alloc, sort, ctx, term, level);
+    pair_cases(alloc, level, first, y, by)
+}
+
+/// The normal forms of a formula and of its negation.
+#[cycle(walk)]
+fn both_ways(alloc: Global, sort: Sort, ctx: &[Bound], term: &Term, level: u32) -> Contraries
+    ensures yes { IsBuilt (gnorm capped_maker (tree_of term.now) sort true ctx.now level) result.yes }
+    ensures no { IsBuilt (gnorm capped_maker (tree_of term.now) sort false ctx.now level) result.no }
+{
+    Contraries {
+        yes: formula(alloc, sort, ctx, term, true, level),
+        no: formula(alloc, sort, ctx, term, false, level),
+    }
 }
 
 /// The normal form of a formula, or of its negation, below a number of binders.
@@ -335,6 +343,104 @@ fn formula(
         Term::True => Ok(closed(alloc, truth)),
         Term::Var(i) => truth_literal(alloc, sort, truth, level_of(ctx, *i)),
         Term::Not(t) => formula(alloc, sort, ctx, t.get(), !truth, level),
+        Term::Implies(a, b) => {
+            let x = formula(alloc, sort, ctx, a.get(), !truth, level);
+            let y = formula(alloc, sort, ctx, b.get(), truth, level);
+            both(alloc, !truth, x, y)
+        }
+        Term::Ite(c, a, b) => {
+            let test = both_ways(alloc, sort, ctx, c.get(), level);
+            let x = formula(alloc, sort, ctx, a.get(), truth, level);
+            let y = formula(alloc, sort, ctx, b.get(), truth, level);
+            choice_of(alloc, test, x, y)
+        }
+        Term::And(ts) => parts(alloc, sort, ctx, ts.as_slice(), truth, truth, level),
+        Term::Or(ts) => parts(alloc, sort, ctx, ts.as_slice(), !truth, truth, level),
+        Term::Forall(vs, t) => bound(
+            alloc,
+            sort,
+            ctx,
+            truth,
+            vs.as_slice(),
+            t.get(),
+            truth,
+            level,
+        ),
+        Term::Exists(vs, t) => bound(
+            alloc,
+            sort,
+            ctx,
+            !truth,
+            vs.as_slice(),
+            t.get(),
+            truth,
+            level,
+        ),
+        Term::Equal(_, _) => sameness(alloc, sort, ctx, term, truth, level),
+        Term::Xor(_, _) => sameness(alloc, sort, ctx, term, truth, level),
+        Term::Divisible(_, _) => comparison(alloc, sort, ctx, term, truth, level),
+        Term::Less(_, _) => comparison(alloc, sort, ctx, term, truth, level),
+        Term::AtMost(_, _) => comparison(alloc, sort, ctx, term, truth, level),
+        Term::Greater(_, _) => comparison(alloc, sort, ctx, term, truth, level),
+        Term::AtLeast(_, _) => comparison(alloc, sort, ctx, term, truth, level),
+        Term::False => Ok(closed(alloc, !truth)),
+        Term::Number { .. } => Ok(closed(alloc, !truth)),
+        Term::Negative(_) => Ok(closed(alloc, !truth)),
+        Term::Abs(_) => Ok(closed(alloc, !truth)),
+        Term::Minus(_, _) => Ok(closed(alloc, !truth)),
+        Term::Quotient(_, _) => Ok(closed(alloc, !truth)),
+        Term::Div(_, _) => Ok(closed(alloc, !truth)),
+        Term::Mod(_, _) => Ok(closed(alloc, !truth)),
+        Term::Plus(_) => Ok(closed(alloc, !truth)),
+        Term::Times(_) => Ok(closed(alloc, !truth)),
+    }
+}
+
+/// The normal form of an equality of formulas or numbers, or of an exclusive or; asked of nothing else.
+#[cycle(walk)]
+fn sameness(
+    alloc: Global,
+    sort: Sort,
+    ctx: &[Bound],
+    term: &Term,
+    truth: bool,
+    level: u32,
+) -> Result<Normal, FormFault>
+    ensures { IsBuilt (gnorm capped_maker (tree_of term.now) sort truth ctx.now level) result }
+{
+    match term {
+        Term::Equal(a, b) => {
+            if is_formula_in(a.get(), ctx) {
+                let x = both_ways(alloc, sort, ctx, a.get(), level);
+                let y = both_ways(alloc, sort, ctx, b.get(), level);
+                return same_of(alloc, truth, x, y);
+            }
+            let x = number(alloc, sort, ctx, a.get(), level);
+            let z = second(alloc, sort, ctx, Step::Minus, x, b.get());
+            atom(alloc, sort, Claim::Zero, truth, z)
+        }
+        Term::Xor(a, b) => {
+            let x = both_ways(alloc, sort, ctx, a.get(), level);
+            let y = both_ways(alloc, sort, ctx, b.get(), level);
+            same_of(alloc, !truth, x, y)
+        }
+        _ => Err(FormFault::Memory),
+    }
+}
+
+/// The normal form of a comparison or a divisibility; asked of nothing else.
+#[cycle(walk)]
+fn comparison(
+    alloc: Global,
+    sort: Sort,
+    ctx: &[Bound],
+    term: &Term,
+    truth: bool,
+    level: u32,
+) -> Result<Normal, FormFault>
+    ensures { IsBuilt (gnorm capped_maker (tree_of term.now) sort truth ctx.now level) result }
+{
+    match term {
         Term::Divisible(n, t) => {
             let x = number(alloc, sort, ctx, t.get(), level);
             atom(alloc, sort, Claim::Divides(*n), truth, x)
@@ -359,73 +465,7 @@ fn formula(
             let z = second(alloc, sort, ctx, Step::Minus, x, b.get());
             atom(alloc, sort, Claim::AtLeast, truth, z)
         }
-        Term::Equal(a, b) => {
-            if is_formula_in(a.get(), ctx) {
-                let x = formula(alloc, sort, ctx, a.get(), true, level);
-                let n = formula(alloc, sort, ctx, a.get(), false, level);
-                let y = formula(alloc, sort, ctx, b.get(), true, level);
-                let m = formula(alloc, sort, ctx, b.get(), false, level);
-                return same_of(alloc, truth, x, n, y, m);
-            }
-            let x = number(alloc, sort, ctx, a.get(), level);
-            let z = second(alloc, sort, ctx, Step::Minus, x, b.get());
-            atom(alloc, sort, Claim::Zero, truth, z)
-        }
-        Term::Xor(a, b) => {
-            let x = formula(alloc, sort, ctx, a.get(), true, level);
-            let n = formula(alloc, sort, ctx, a.get(), false, level);
-            let y = formula(alloc, sort, ctx, b.get(), true, level);
-            let m = formula(alloc, sort, ctx, b.get(), false, level);
-            same_of(alloc, !truth, x, n, y, m)
-        }
-        Term::Implies(a, b) => {
-            let x = formula(alloc, sort, ctx, a.get(), !truth, level);
-            let y = formula(alloc, sort, ctx, b.get(), truth, level);
-            both(alloc, !truth, x, y)
-        }
-        Term::Ite(c, a, b) => {
-            let yes = formula(alloc, sort, ctx, c.get(), true, level);
-            let no = formula(alloc, sort, ctx, c.get(), false, level);
-            let x = formula(alloc, sort, ctx, a.get(), truth, level);
-            let y = formula(alloc, sort, ctx, b.get(), truth, level);
-            choice_of(alloc, yes, no, x, y)
-        }
-        Term::And(ts) => parts(alloc, sort, ctx, ts.as_slice(), truth, truth, level),
-        Term::Or(ts) => parts(alloc, sort, ctx, ts.as_slice(), !truth, truth, level),
-        Term::Forall(vs, t) => {
-            bound(
-                alloc,
-                sort,
-                ctx,
-                truth,
-                vs.as_slice(),
-                t.get(),
-                truth,
-                level,
-            )
-        }
-        Term::Exists(vs, t) => {
-            bound(
-                alloc,
-                sort,
-                ctx,
-                !truth,
-                vs.as_slice(),
-                t.get(),
-                truth,
-                level,
-            )
-        }
-        Term::False => Ok(closed(alloc, !truth)),
-        Term::Number { .. } => Ok(closed(alloc, !truth)),
-        Term::Negative(_) => Ok(closed(alloc, !truth)),
-        Term::Abs(_) => Ok(closed(alloc, !truth)),
-        Term::Minus(_, _) => Ok(closed(alloc, !truth)),
-        Term::Quotient(_, _) => Ok(closed(alloc, !truth)),
-        Term::Div(_, _) => Ok(closed(alloc, !truth)),
-        Term::Mod(_, _) => Ok(closed(alloc, !truth)),
-        Term::Plus(_) => Ok(closed(alloc, !truth)),
-        Term::Times(_) => Ok(closed(alloc, !truth)),
+        _ => Err(FormFault::Memory),
     }
 }
 

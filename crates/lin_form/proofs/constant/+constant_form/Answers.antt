@@ -37,22 +37,22 @@ pub constant_form-returns-in-Quotient : goal.constant_form-returns-in-Quotient
 constant_form-returns-in-Quotient t c =
     let A : Term = tree_of c.get-in-Quotient.result.now in
     let B : Term = tree_of c.get-in-Quotient-2.result.now in
-    subst (λ (u : Term). Formed (steps u) (as_lin (low u)) c.divided.result) (sym (tree-Quotient c.get-in-Quotient.result.now c.get-in-Quotient-2.result.now c.in-Quotient.a c.in-Quotient.b c.args.term.now c.get-in-Quotient.ensures c.get-in-Quotient-2.ensures c.in-Quotient.is))
-    (c.divided.ensures (steps A) (steps B) (as_lin (low A)) (as_lin (low B)) c.constant_form-x-in-Quotient.ensures c.constant_form-y-in-Quotient.ensures)
+    subst (λ (u : Term). Formed (steps u) (as_lin (low u)) c.operated-in-Quotient.result) (sym (tree-Quotient c.get-in-Quotient.result.now c.get-in-Quotient-2.result.now c.in-Quotient.a c.in-Quotient.b c.args.term.now c.get-in-Quotient.ensures c.get-in-Quotient-2.ensures c.in-Quotient.is))
+    (c.operated-in-Quotient.ensures (steps A) (steps B) (as_lin (low A)) (as_lin (low B)) c.constant_form-x-in-Quotient.ensures c.constant_form-y-in-Quotient.ensures)
 
 pub constant_form-returns-in-Div : goal.constant_form-returns-in-Div
 constant_form-returns-in-Div t c =
     let A : Term = tree_of c.get-in-Div.result.now in
     let B : Term = tree_of c.get-in-Div-2.result.now in
-    subst (λ (u : Term). Formed (steps u) (as_lin (low u)) c.whole.result) (sym (tree-Div c.get-in-Div.result.now c.get-in-Div-2.result.now c.in-Div.a c.in-Div.b c.args.term.now c.get-in-Div.ensures c.get-in-Div-2.ensures c.in-Div.is))
-    (c.whole.ensures (steps A) (steps B) (as_lin (low A)) (as_lin (low B)) c.constant_form-x-in-Div.ensures c.constant_form-y-in-Div.ensures)
+    subst (λ (u : Term). Formed (steps u) (as_lin (low u)) c.operated-in-Div.result) (sym (tree-Div c.get-in-Div.result.now c.get-in-Div-2.result.now c.in-Div.a c.in-Div.b c.args.term.now c.get-in-Div.ensures c.get-in-Div-2.ensures c.in-Div.is))
+    (c.operated-in-Div.ensures (steps A) (steps B) (as_lin (low A)) (as_lin (low B)) c.constant_form-x-in-Div.ensures c.constant_form-y-in-Div.ensures)
 
 pub constant_form-returns-in-Mod : goal.constant_form-returns-in-Mod
 constant_form-returns-in-Mod t c =
     let A : Term = tree_of c.get-in-Mod.result.now in
     let B : Term = tree_of c.get-in-Mod-2.result.now in
-    subst (λ (u : Term). Formed (steps u) (as_lin (low u)) c.remainder.result) (sym (tree-Mod c.get-in-Mod.result.now c.get-in-Mod-2.result.now c.in-Mod.a c.in-Mod.b c.args.term.now c.get-in-Mod.ensures c.get-in-Mod-2.ensures c.in-Mod.is))
-    (c.remainder.ensures (steps A) (steps B) (as_lin (low A)) (as_lin (low B)) c.constant_form-x-in-Mod.ensures c.constant_form-y-in-Mod.ensures)
+    subst (λ (u : Term). Formed (steps u) (as_lin (low u)) c.operated-in-Mod.result) (sym (tree-Mod c.get-in-Mod.result.now c.get-in-Mod-2.result.now c.in-Mod.a c.in-Mod.b c.args.term.now c.get-in-Mod.ensures c.get-in-Mod-2.ensures c.in-Mod.is))
+    (c.operated-in-Mod.ensures (steps A) (steps B) (as_lin (low A)) (as_lin (low B)) c.constant_form-x-in-Mod.ensures c.constant_form-y-in-Mod.ensures)
 
 pub constant_sum-loop-term-preserved : goal.constant_sum-loop-term-preserved
 constant_sum-loop-term-preserved t c =

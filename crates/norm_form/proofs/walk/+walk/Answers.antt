@@ -5,10 +5,11 @@ use Rattle.lin_truth.specs.Term.{Term, Terms, term_and}
 use Rattle.lin_truth.specs.Truth.{is_formula}
 use Rattle.lin_truth.specs.View.{tree_of, trees_of}
 use Rattle.lin_form.specs.declared.Bound.{Bound}
-use Rattle.lin_form.specs.Lin.{Lin, lin_plus, lin_times, lin_variable}
+use Rattle.lin_form.specs.Lin.{Lin, lin_plus, lin_times}
+use Rattle.lin_form.specs.Direct.{direct, made}
 use Rattle.lin_form.specs.Low.{as_lin, low, steps}
 use Rattle.lin_form.specs.Scope.{bound_sort}
-use Rattle.lin_form.proofs.Trees.{trees_more, trees_all, tree-Var, tree-Negative, tree-Abs, tree-Minus, tree-Quotient, tree-Div, tree-Mod, tree-Ite, tree-Plus, tree-Times, tree-Divisible, tree-Less, tree-AtMost, tree-Greater, tree-AtLeast, tree-Equal, tree-Xor, tree-Implies}
+use Rattle.lin_form.proofs.Trees.{trees_more, trees_all, tree-Negative, tree-Abs, tree-Minus, tree-Quotient, tree-Div, tree-Mod, tree-Ite, tree-Plus, tree-Times, tree-Divisible, tree-Less, tree-AtMost, tree-Greater, tree-AtLeast, tree-Equal, tree-Xor, tree-Implies}
 use Rattle.norm_form.specs.declared.branches.Case.{Case}
 use Rattle.norm_form.specs.declared.change.Step.TheVariants as step_kinds
 use Rattle.norm_form.specs.Cap.{capped_maker}
@@ -20,49 +21,43 @@ use Rattle.norm_form.specs.View.{IsBuilt}
 use Rattle.norm_form.specs.Walk.{all_bound, wrapped}
 use Rattle.norm_form.proofs.Claiming.{built_same}
 use Rattle.norm_form.proofs.Running.{GoesOn, goes_form, goes_choice, goes_quotient, goes_stop, turned_cases, turned_back_cases, cases_stop, back_stop}
-use Rattle.norm_form.proofs.Walking.{SumStands, ProductStands, PartsStand, Stepping, sum_more, sum_stops, product_more, product_stops, parts_more, parts_stop, parts_end, constant_cases, negative_cases, absolute_cases, minus_cases, quotient_cases, div_cases, mod_cases, plus_cases, times_cases, ite_cases, equal_number, equal_truth}
+use Rattle.norm_form.proofs.Walking.{SumStands, ProductStands, PartsStand, Stepping, sum_more, sum_stops, product_more, product_stops, parts_more, parts_stop, parts_end, direct_cases, negative_cases, absolute_cases, minus_cases, quotient_cases, div_cases, mod_cases, plus_cases, times_cases, ite_cases, equal_number, equal_truth}
 use Rattle.norm_form.proofs.Wrapping.{bind_is}
 use Rattle.norm_form.proofs.walk.+walk.Goals as goal
 
-pub number-returns-then-is_constant : goal.number-returns-then-is_constant
-number-returns-then-is_constant t c =
-    constant_cases (tree_of c.args.term.now) c.args.sort c.args.ctx.now c.args.level c.leaf_cases.result (sym c.if-is_constant.ensures)
-    (c.leaf_cases.ensures (steps (tree_of c.args.term.now)) (as_lin (low (tree_of c.args.term.now))) c.constant_form.ensures)
-
-pub number-returns-in-Var : goal.number-returns-in-Var
-number-returns-in-Var t c =
-    subst (λ (u : Term). AreCases (λ k. glin capped_maker u c.args.sort c.args.ctx.now c.args.level k) c.leaf_cases-in-Var.result) (sym (tree-Var c.in-Var.i c.args.term.now c.in-Var.is))
-    (subst (λ (n : ℕ). AreCases (λ k. capped_maker.formed (lin_variable n ∷ []) (k c.args.level (lin_variable n))) c.leaf_cases-in-Var.result) c.level_of.ensures
-    (c.leaf_cases-in-Var.ensures (lin_variable c.level_of.result ∷ []) (lin_variable c.level_of.result) c.variable.ensures))
+pub number-returns-then-is_direct : goal.number-returns-then-is_direct
+number-returns-then-is_direct t c =
+    direct_cases (tree_of c.args.term.now) c.args.sort c.args.ctx.now c.args.level c.leaf_cases.result (sym c.if-is_direct.ensures)
+    (c.leaf_cases.ensures (made (tree_of c.args.term.now) c.args.ctx.now) (direct (tree_of c.args.term.now) c.args.ctx.now) c.direct_form.ensures)
 
 pub number-returns-in-Negative : goal.number-returns-in-Negative
 number-returns-in-Negative t c =
-    negative_cases (tree_of c.args.term.now) (tree_of c.get.result.now) c.args.sort c.args.ctx.now c.args.level c.turned.result (tree-Negative c.get.result.now c.in-Negative.t c.args.term.now c.get.ensures c.in-Negative.is) (sym c.if-is_constant.ensures)
+    negative_cases (tree_of c.args.term.now) (tree_of c.get.result.now) c.args.sort c.args.ctx.now c.args.level c.turned.result (tree-Negative c.get.result.now c.in-Negative.t c.args.term.now c.get.ensures c.in-Negative.is) (sym c.if-is_direct.ensures)
     (c.turned.ensures (λ k. glin capped_maker (tree_of c.get.result.now) c.args.sort c.args.ctx.now c.args.level k) c.number-x.ensures)
 
 pub number-returns-in-Abs : goal.number-returns-in-Abs
 number-returns-in-Abs t c =
-    absolute_cases (tree_of c.args.term.now) (tree_of c.get-in-Abs.result.now) c.args.sort c.args.ctx.now c.args.level c.turned-in-Abs.result (tree-Abs c.get-in-Abs.result.now c.in-Abs.t c.args.term.now c.get-in-Abs.ensures c.in-Abs.is) (sym c.if-is_constant.ensures)
+    absolute_cases (tree_of c.args.term.now) (tree_of c.get-in-Abs.result.now) c.args.sort c.args.ctx.now c.args.level c.turned-in-Abs.result (tree-Abs c.get-in-Abs.result.now c.in-Abs.t c.args.term.now c.get-in-Abs.ensures c.in-Abs.is) (sym c.if-is_direct.ensures)
     (c.turned-in-Abs.ensures (λ k. glin capped_maker (tree_of c.get-in-Abs.result.now) c.args.sort c.args.ctx.now c.args.level k) c.number-x-in-Abs.ensures)
 
 pub number-returns-in-Minus : goal.number-returns-in-Minus
 number-returns-in-Minus t c =
-    minus_cases (tree_of c.args.term.now) (tree_of c.get-in-Minus.result.now) (tree_of c.get-in-Minus-2.result.now) c.args.sort c.args.ctx.now c.args.level c.second.result (tree-Minus c.get-in-Minus.result.now c.get-in-Minus-2.result.now c.in-Minus.a c.in-Minus.b c.args.term.now c.get-in-Minus.ensures c.get-in-Minus-2.ensures c.in-Minus.is) (sym c.if-is_constant.ensures)
+    minus_cases (tree_of c.args.term.now) (tree_of c.get-in-Minus.result.now) (tree_of c.get-in-Minus-2.result.now) c.args.sort c.args.ctx.now c.args.level c.second.result (tree-Minus c.get-in-Minus.result.now c.get-in-Minus-2.result.now c.in-Minus.a c.in-Minus.b c.args.term.now c.get-in-Minus.ensures c.get-in-Minus-2.ensures c.in-Minus.is) (sym c.if-is_direct.ensures)
     (c.second.ensures (λ k. glin capped_maker (tree_of c.get-in-Minus.result.now) c.args.sort c.args.ctx.now c.args.level k) c.number-x-in-Minus.ensures)
 
 pub number-returns-in-Quotient : goal.number-returns-in-Quotient
 number-returns-in-Quotient t c =
-    quotient_cases (tree_of c.args.term.now) (tree_of c.get-in-Quotient.result.now) (tree_of c.get-in-Quotient-2.result.now) c.args.sort c.args.ctx.now c.args.level c.divided_cases.result (tree-Quotient c.get-in-Quotient.result.now c.get-in-Quotient-2.result.now c.in-Quotient.a c.in-Quotient.b c.args.term.now c.get-in-Quotient.ensures c.get-in-Quotient-2.ensures c.in-Quotient.is) (sym c.if-is_constant.ensures)
+    quotient_cases (tree_of c.args.term.now) (tree_of c.get-in-Quotient.result.now) (tree_of c.get-in-Quotient-2.result.now) c.args.sort c.args.ctx.now c.args.level c.divided_cases.result (tree-Quotient c.get-in-Quotient.result.now c.get-in-Quotient-2.result.now c.in-Quotient.a c.in-Quotient.b c.args.term.now c.get-in-Quotient.ensures c.get-in-Quotient-2.ensures c.in-Quotient.is) (sym c.if-is_direct.ensures)
     (c.divided_cases.ensures (λ k. glin capped_maker (tree_of c.get-in-Quotient.result.now) c.args.sort c.args.ctx.now c.args.level k) (steps (tree_of c.get-in-Quotient-2.result.now)) (as_lin (low (tree_of c.get-in-Quotient-2.result.now))) c.number-x-in-Quotient.ensures c.constant_form-by.ensures)
 
 pub number-returns-in-Div : goal.number-returns-in-Div
 number-returns-in-Div t c =
-    div_cases (tree_of c.args.term.now) (tree_of c.get-in-Div.result.now) (tree_of c.get-in-Div-2.result.now) c.args.sort c.args.ctx.now c.args.level c.divided_cases-in-Div.result (tree-Div c.get-in-Div.result.now c.get-in-Div-2.result.now c.in-Div.a c.in-Div.b c.args.term.now c.get-in-Div.ensures c.get-in-Div-2.ensures c.in-Div.is) (sym c.if-is_constant.ensures)
+    div_cases (tree_of c.args.term.now) (tree_of c.get-in-Div.result.now) (tree_of c.get-in-Div-2.result.now) c.args.sort c.args.ctx.now c.args.level c.divided_cases-in-Div.result (tree-Div c.get-in-Div.result.now c.get-in-Div-2.result.now c.in-Div.a c.in-Div.b c.args.term.now c.get-in-Div.ensures c.get-in-Div-2.ensures c.in-Div.is) (sym c.if-is_direct.ensures)
     (c.divided_cases-in-Div.ensures (λ k. glin capped_maker (tree_of c.get-in-Div.result.now) c.args.sort c.args.ctx.now c.args.level k) (steps (tree_of c.get-in-Div-2.result.now)) (as_lin (low (tree_of c.get-in-Div-2.result.now))) c.number-x-in-Div.ensures c.constant_form-by-in-Div.ensures)
 
 pub number-returns-in-Mod : goal.number-returns-in-Mod
 number-returns-in-Mod t c =
-    mod_cases (tree_of c.args.term.now) (tree_of c.get-in-Mod.result.now) (tree_of c.get-in-Mod-2.result.now) c.args.sort c.args.ctx.now c.args.level c.divided_cases-in-Mod.result (tree-Mod c.get-in-Mod.result.now c.get-in-Mod-2.result.now c.in-Mod.a c.in-Mod.b c.args.term.now c.get-in-Mod.ensures c.get-in-Mod-2.ensures c.in-Mod.is) (sym c.if-is_constant.ensures)
+    mod_cases (tree_of c.args.term.now) (tree_of c.get-in-Mod.result.now) (tree_of c.get-in-Mod-2.result.now) c.args.sort c.args.ctx.now c.args.level c.divided_cases-in-Mod.result (tree-Mod c.get-in-Mod.result.now c.get-in-Mod-2.result.now c.in-Mod.a c.in-Mod.b c.args.term.now c.get-in-Mod.ensures c.get-in-Mod-2.ensures c.in-Mod.is) (sym c.if-is_direct.ensures)
     (c.divided_cases-in-Mod.ensures (λ k. glin capped_maker (tree_of c.get-in-Mod.result.now) c.args.sort c.args.ctx.now c.args.level k) (steps (tree_of c.get-in-Mod-2.result.now)) (as_lin (low (tree_of c.get-in-Mod-2.result.now))) c.number-x-in-Mod.ensures c.constant_form-by-in-Mod.ensures)
 
 pub number-returns-in-Ite : goal.number-returns-in-Ite
@@ -73,11 +68,11 @@ number-returns-in-Ite t c =
 
 pub number-returns-in-Plus : goal.number-returns-in-Plus
 number-returns-in-Plus t c =
-    plus_cases (tree_of c.args.term.now) (trees_of c.as_slice.result.now) c.args.sort c.args.ctx.now c.args.level c.sum.result (tree-Plus c.as_slice.result.now c.in-Plus.ts c.args.term.now c.as_slice.ensures c.in-Plus.is) (sym c.if-is_constant.ensures) c.sum.ensures
+    plus_cases (tree_of c.args.term.now) (trees_of c.as_slice.result.now) c.args.sort c.args.ctx.now c.args.level c.sum.result (tree-Plus c.as_slice.result.now c.in-Plus.ts c.args.term.now c.as_slice.ensures c.in-Plus.is) (sym c.if-is_direct.ensures) c.sum.ensures
 
 pub number-returns-in-Times : goal.number-returns-in-Times
 number-returns-in-Times t c =
-    times_cases (tree_of c.args.term.now) (trees_of c.as_slice-in-Times.result.now) c.args.sort c.args.ctx.now c.args.level c.product.result (tree-Times c.as_slice-in-Times.result.now c.in-Times.ts c.args.term.now c.as_slice-in-Times.ensures c.in-Times.is) (sym c.if-is_constant.ensures) c.product.ensures
+    times_cases (tree_of c.args.term.now) (trees_of c.as_slice-in-Times.result.now) c.args.sort c.args.ctx.now c.args.level c.product.result (tree-Times c.as_slice-in-Times.result.now c.in-Times.ts c.args.term.now c.as_slice-in-Times.ensures c.in-Times.is) (sym c.if-is_direct.ensures) c.product.ensures
 
 pub second-returns-in-Ok : goal.second-returns-in-Ok
 second-returns-in-Ok t c = λ g h.
@@ -235,62 +230,74 @@ bound-returns t c =
     (sym (bind_is c.args.every c.args.vars.now (λ m e. gnorm capped_maker (tree_of c.args.body.now) c.args.sort c.args.truth m e) c.args.ctx.now c.args.level))
     (c.wrapped.ensures o (subst (λ (m : List Bound). IsBuilt (gnorm capped_maker (tree_of c.args.body.now) c.args.sort c.args.truth m N) c.formula-inner.result) (c.as_slice.ensures ∙ c.in_ok-all.ensures) c.formula-inner.ensures))
 
-pub formula-returns-in-Divisible : goal.formula-returns-in-Divisible
-formula-returns-in-Divisible t c =
-    subst (λ (u : Term). IsBuilt (gnorm capped_maker u c.args.sort c.args.truth c.args.ctx.now c.args.level) c.atom.result) (sym (tree-Divisible c.in-Divisible.n c.get-in-Divisible.result.now c.in-Divisible.t c.args.term.now c.get-in-Divisible.ensures c.in-Divisible.is))
-    (c.atom.ensures (λ k. glin capped_maker (tree_of c.get-in-Divisible.result.now) c.args.sort c.args.ctx.now c.args.level k) c.number-x.ensures)
+pub comparison-returns-in-Divisible : goal.comparison-returns-in-Divisible
+comparison-returns-in-Divisible t c =
+    subst (λ (u : Term). IsBuilt (gnorm capped_maker u c.args.sort c.args.truth c.args.ctx.now c.args.level) c.atom.result) (sym (tree-Divisible c.in-Divisible.n c.get.result.now c.in-Divisible.t c.args.term.now c.get.ensures c.in-Divisible.is))
+    (c.atom.ensures (λ k. glin capped_maker (tree_of c.get.result.now) c.args.sort c.args.ctx.now c.args.level k) c.number-x.ensures)
 
-pub formula-returns-in-Less : goal.formula-returns-in-Less
-formula-returns-in-Less t c =
+pub comparison-returns-in-Less : goal.comparison-returns-in-Less
+comparison-returns-in-Less t c =
     subst (λ (u : Term). IsBuilt (gnorm capped_maker u c.args.sort c.args.truth c.args.ctx.now c.args.level) c.atom-in-Less.result) (sym (tree-Less c.get-in-Less.result.now c.get-in-Less-2.result.now c.in-Less.a c.in-Less.b c.args.term.now c.get-in-Less.ensures c.get-in-Less-2.ensures c.in-Less.is))
     (c.atom-in-Less.ensures (λ k. glin capped_maker (tree_of c.get-in-Less.result.now) c.args.sort c.args.ctx.now c.args.level (λ e x. glin capped_maker (tree_of c.get-in-Less-2.result.now) c.args.sort c.args.ctx.now e (λ f y. capped_maker.formed (stepped step_kinds.From x y ∷ []) (k f (stepped step_kinds.From x y))))) (c.second-z.ensures (λ k. glin capped_maker (tree_of c.get-in-Less.result.now) c.args.sort c.args.ctx.now c.args.level k) c.number-x-in-Less.ensures))
 
-pub formula-returns-in-AtMost : goal.formula-returns-in-AtMost
-formula-returns-in-AtMost t c =
+pub comparison-returns-in-AtMost : goal.comparison-returns-in-AtMost
+comparison-returns-in-AtMost t c =
     subst (λ (u : Term). IsBuilt (gnorm capped_maker u c.args.sort c.args.truth c.args.ctx.now c.args.level) c.atom-in-AtMost.result) (sym (tree-AtMost c.get-in-AtMost.result.now c.get-in-AtMost-2.result.now c.in-AtMost.a c.in-AtMost.b c.args.term.now c.get-in-AtMost.ensures c.get-in-AtMost-2.ensures c.in-AtMost.is))
     (c.atom-in-AtMost.ensures (λ k. glin capped_maker (tree_of c.get-in-AtMost.result.now) c.args.sort c.args.ctx.now c.args.level (λ e x. glin capped_maker (tree_of c.get-in-AtMost-2.result.now) c.args.sort c.args.ctx.now e (λ f y. capped_maker.formed (stepped step_kinds.From x y ∷ []) (k f (stepped step_kinds.From x y))))) (c.second-z-in-AtMost.ensures (λ k. glin capped_maker (tree_of c.get-in-AtMost.result.now) c.args.sort c.args.ctx.now c.args.level k) c.number-x-in-AtMost.ensures))
 
-pub formula-returns-in-Greater : goal.formula-returns-in-Greater
-formula-returns-in-Greater t c =
+pub comparison-returns-in-Greater : goal.comparison-returns-in-Greater
+comparison-returns-in-Greater t c =
     subst (λ (u : Term). IsBuilt (gnorm capped_maker u c.args.sort c.args.truth c.args.ctx.now c.args.level) c.atom-in-Greater.result) (sym (tree-Greater c.get-in-Greater.result.now c.get-in-Greater-2.result.now c.in-Greater.a c.in-Greater.b c.args.term.now c.get-in-Greater.ensures c.get-in-Greater-2.ensures c.in-Greater.is))
     (c.atom-in-Greater.ensures (λ k. glin capped_maker (tree_of c.get-in-Greater.result.now) c.args.sort c.args.ctx.now c.args.level (λ e x. glin capped_maker (tree_of c.get-in-Greater-2.result.now) c.args.sort c.args.ctx.now e (λ f y. capped_maker.formed (stepped step_kinds.Minus x y ∷ []) (k f (stepped step_kinds.Minus x y))))) (c.second-z-in-Greater.ensures (λ k. glin capped_maker (tree_of c.get-in-Greater.result.now) c.args.sort c.args.ctx.now c.args.level k) c.number-x-in-Greater.ensures))
 
-pub formula-returns-in-AtLeast : goal.formula-returns-in-AtLeast
-formula-returns-in-AtLeast t c =
+pub comparison-returns-in-AtLeast : goal.comparison-returns-in-AtLeast
+comparison-returns-in-AtLeast t c =
     subst (λ (u : Term). IsBuilt (gnorm capped_maker u c.args.sort c.args.truth c.args.ctx.now c.args.level) c.atom-in-AtLeast.result) (sym (tree-AtLeast c.get-in-AtLeast.result.now c.get-in-AtLeast-2.result.now c.in-AtLeast.a c.in-AtLeast.b c.args.term.now c.get-in-AtLeast.ensures c.get-in-AtLeast-2.ensures c.in-AtLeast.is))
     (c.atom-in-AtLeast.ensures (λ k. glin capped_maker (tree_of c.get-in-AtLeast.result.now) c.args.sort c.args.ctx.now c.args.level (λ e x. glin capped_maker (tree_of c.get-in-AtLeast-2.result.now) c.args.sort c.args.ctx.now e (λ f y. capped_maker.formed (stepped step_kinds.Minus x y ∷ []) (k f (stepped step_kinds.Minus x y))))) (c.second-z-in-AtLeast.ensures (λ k. glin capped_maker (tree_of c.get-in-AtLeast.result.now) c.args.sort c.args.ctx.now c.args.level k) c.number-x-in-AtLeast.ensures))
 
-pub formula-returns-else-is_formula_in : goal.formula-returns-else-is_formula_in
-formula-returns-else-is_formula_in t c =
-    equal_number (tree_of c.args.term.now) (tree_of c.get-in-Equal-2.result.now) (tree_of c.get-in-Equal-3.result.now) c.args.sort c.args.truth c.args.ctx.now c.args.level c.atom-in-Equal.result
-    (tree-Equal c.get-in-Equal-2.result.now c.get-in-Equal-3.result.now c.in-Equal.a c.in-Equal.b c.args.term.now c.get-in-Equal-2.ensures c.get-in-Equal-3.ensures c.in-Equal.is)
-    (ap (λ (w : Written). is_formula (tree_of w) (map bound_sort c.args.ctx.now)) (c.get-in-Equal-2.ensures ∙ sym c.get-in-Equal.ensures) ∙ sym c.if-is_formula_in.ensures)
-    (c.atom-in-Equal.ensures (λ k. glin capped_maker (tree_of c.get-in-Equal-2.result.now) c.args.sort c.args.ctx.now c.args.level (λ e x. glin capped_maker (tree_of c.get-in-Equal-3.result.now) c.args.sort c.args.ctx.now e (λ f y. capped_maker.formed (stepped step_kinds.Minus x y ∷ []) (k f (stepped step_kinds.Minus x y)))))
-    (c.second-z-in-Equal.ensures (λ k. glin capped_maker (tree_of c.get-in-Equal-2.result.now) c.args.sort c.args.ctx.now c.args.level k) c.number-x-in-Equal.ensures))
+pub sameness-returns-else-is_formula_in : goal.sameness-returns-else-is_formula_in
+sameness-returns-else-is_formula_in t c =
+    equal_number (tree_of c.args.term.now) (tree_of c.get-in-Equal.result.now) (tree_of c.get-in-Equal-2.result.now) c.args.sort c.args.truth c.args.ctx.now c.args.level c.atom.result
+    (tree-Equal c.get-in-Equal.result.now c.get-in-Equal-2.result.now c.in-Equal.a c.in-Equal.b c.args.term.now c.get-in-Equal.ensures c.get-in-Equal-2.ensures c.in-Equal.is)
+    (ap (λ (w : Written). is_formula (tree_of w) (map bound_sort c.args.ctx.now)) (c.get-in-Equal.ensures ∙ sym c.get.ensures) ∙ sym c.if-is_formula_in.ensures)
+    (c.atom.ensures (λ k. glin capped_maker (tree_of c.get-in-Equal.result.now) c.args.sort c.args.ctx.now c.args.level (λ e x. glin capped_maker (tree_of c.get-in-Equal-2.result.now) c.args.sort c.args.ctx.now e (λ f y. capped_maker.formed (stepped step_kinds.Minus x y ∷ []) (k f (stepped step_kinds.Minus x y)))))
+    (c.second-z.ensures (λ k. glin capped_maker (tree_of c.get-in-Equal.result.now) c.args.sort c.args.ctx.now c.args.level k) c.number-x.ensures))
 
-pub formula-returns-then-is_formula_in : goal.formula-returns-then-is_formula_in
-formula-returns-then-is_formula_in t c =
+pub sameness-returns-then-is_formula_in : goal.sameness-returns-then-is_formula_in
+sameness-returns-then-is_formula_in t c =
     equal_truth (tree_of c.args.term.now) (tree_of c.in-Equal.a) (tree_of c.in-Equal.b) c.args.sort c.args.truth c.args.ctx.now c.args.level c.same_of.result
     (tree-Equal c.in-Equal.a c.in-Equal.b c.in-Equal.a c.in-Equal.b c.args.term.now refl refl c.in-Equal.is)
-    (ap (λ (w : Written). is_formula (tree_of w) (map bound_sort c.args.ctx.now)) (sym c.get-in-Equal.ensures) ∙ sym c.if-is_formula_in.ensures)
-    (c.same_of.ensures (gnorm capped_maker (tree_of c.in-Equal.a) c.args.sort true c.args.ctx.now c.args.level) (gnorm capped_maker (tree_of c.in-Equal.a) c.args.sort false c.args.ctx.now c.args.level) (gnorm capped_maker (tree_of c.in-Equal.b) c.args.sort true c.args.ctx.now c.args.level) (gnorm capped_maker (tree_of c.in-Equal.b) c.args.sort false c.args.ctx.now c.args.level) (subst (λ (w : Written). IsBuilt (gnorm capped_maker (tree_of w) c.args.sort true c.args.ctx.now c.args.level) c.formula-x.result) c.get-then-is_formula_in.ensures c.formula-x.ensures) (subst (λ (w : Written). IsBuilt (gnorm capped_maker (tree_of w) c.args.sort false c.args.ctx.now c.args.level) c.formula-n.result) c.get-then-is_formula_in-2.ensures c.formula-n.ensures) (subst (λ (w : Written). IsBuilt (gnorm capped_maker (tree_of w) c.args.sort true c.args.ctx.now c.args.level) c.formula-y.result) c.get-then-is_formula_in-3.ensures c.formula-y.ensures) (subst (λ (w : Written). IsBuilt (gnorm capped_maker (tree_of w) c.args.sort false c.args.ctx.now c.args.level) c.formula-m.result) c.get-then-is_formula_in-4.ensures c.formula-m.ensures))
+    (ap (λ (w : Written). is_formula (tree_of w) (map bound_sort c.args.ctx.now)) (sym c.get.ensures) ∙ sym c.if-is_formula_in.ensures)
+    (c.same_of.ensures (gnorm capped_maker (tree_of c.in-Equal.a) c.args.sort true c.args.ctx.now c.args.level) (gnorm capped_maker (tree_of c.in-Equal.a) c.args.sort false c.args.ctx.now c.args.level) (gnorm capped_maker (tree_of c.in-Equal.b) c.args.sort true c.args.ctx.now c.args.level) (gnorm capped_maker (tree_of c.in-Equal.b) c.args.sort false c.args.ctx.now c.args.level)
+    (subst (λ (w : Written). IsBuilt (gnorm capped_maker (tree_of w) c.args.sort true c.args.ctx.now c.args.level) c.both_ways-x.result.yes) c.get-then-is_formula_in.ensures c.both_ways-x.ensures.yes)
+    (subst (λ (w : Written). IsBuilt (gnorm capped_maker (tree_of w) c.args.sort false c.args.ctx.now c.args.level) c.both_ways-x.result.no) c.get-then-is_formula_in.ensures c.both_ways-x.ensures.no)
+    (subst (λ (w : Written). IsBuilt (gnorm capped_maker (tree_of w) c.args.sort true c.args.ctx.now c.args.level) c.both_ways-y.result.yes) c.get-then-is_formula_in-2.ensures c.both_ways-y.ensures.yes)
+    (subst (λ (w : Written). IsBuilt (gnorm capped_maker (tree_of w) c.args.sort false c.args.ctx.now c.args.level) c.both_ways-y.result.no) c.get-then-is_formula_in-2.ensures c.both_ways-y.ensures.no))
 
-pub formula-returns-in-Xor : goal.formula-returns-in-Xor
-formula-returns-in-Xor t c =
+pub sameness-returns-in-Xor : goal.sameness-returns-in-Xor
+sameness-returns-in-Xor t c =
     subst (λ (u : Term). IsBuilt (gnorm capped_maker u c.args.sort c.args.truth c.args.ctx.now c.args.level) c.same_of-in-Xor.result) (sym (tree-Xor c.in-Xor.a c.in-Xor.b c.in-Xor.a c.in-Xor.b c.args.term.now refl refl c.in-Xor.is))
-    (c.same_of-in-Xor.ensures (gnorm capped_maker (tree_of c.in-Xor.a) c.args.sort true c.args.ctx.now c.args.level) (gnorm capped_maker (tree_of c.in-Xor.a) c.args.sort false c.args.ctx.now c.args.level) (gnorm capped_maker (tree_of c.in-Xor.b) c.args.sort true c.args.ctx.now c.args.level) (gnorm capped_maker (tree_of c.in-Xor.b) c.args.sort false c.args.ctx.now c.args.level) (subst (λ (w : Written). IsBuilt (gnorm capped_maker (tree_of w) c.args.sort true c.args.ctx.now c.args.level) c.formula-x-in-Xor.result) c.get-in-Xor.ensures c.formula-x-in-Xor.ensures) (subst (λ (w : Written). IsBuilt (gnorm capped_maker (tree_of w) c.args.sort false c.args.ctx.now c.args.level) c.formula-n-in-Xor.result) c.get-in-Xor-2.ensures c.formula-n-in-Xor.ensures) (subst (λ (w : Written). IsBuilt (gnorm capped_maker (tree_of w) c.args.sort true c.args.ctx.now c.args.level) c.formula-y-in-Xor.result) c.get-in-Xor-3.ensures c.formula-y-in-Xor.ensures) (subst (λ (w : Written). IsBuilt (gnorm capped_maker (tree_of w) c.args.sort false c.args.ctx.now c.args.level) c.formula-m-in-Xor.result) c.get-in-Xor-4.ensures c.formula-m-in-Xor.ensures))
+    (c.same_of-in-Xor.ensures (gnorm capped_maker (tree_of c.in-Xor.a) c.args.sort true c.args.ctx.now c.args.level) (gnorm capped_maker (tree_of c.in-Xor.a) c.args.sort false c.args.ctx.now c.args.level) (gnorm capped_maker (tree_of c.in-Xor.b) c.args.sort true c.args.ctx.now c.args.level) (gnorm capped_maker (tree_of c.in-Xor.b) c.args.sort false c.args.ctx.now c.args.level)
+    (subst (λ (w : Written). IsBuilt (gnorm capped_maker (tree_of w) c.args.sort true c.args.ctx.now c.args.level) c.both_ways-x-in-Xor.result.yes) c.get-in-Xor.ensures c.both_ways-x-in-Xor.ensures.yes)
+    (subst (λ (w : Written). IsBuilt (gnorm capped_maker (tree_of w) c.args.sort false c.args.ctx.now c.args.level) c.both_ways-x-in-Xor.result.no) c.get-in-Xor.ensures c.both_ways-x-in-Xor.ensures.no)
+    (subst (λ (w : Written). IsBuilt (gnorm capped_maker (tree_of w) c.args.sort true c.args.ctx.now c.args.level) c.both_ways-y-in-Xor.result.yes) c.get-in-Xor-2.ensures c.both_ways-y-in-Xor.ensures.yes)
+    (subst (λ (w : Written). IsBuilt (gnorm capped_maker (tree_of w) c.args.sort false c.args.ctx.now c.args.level) c.both_ways-y-in-Xor.result.no) c.get-in-Xor-2.ensures c.both_ways-y-in-Xor.ensures.no))
 
 pub formula-returns-in-Implies : goal.formula-returns-in-Implies
 formula-returns-in-Implies t c =
     subst (λ (u : Term). IsBuilt (gnorm capped_maker u c.args.sort c.args.truth c.args.ctx.now c.args.level) c.both.result) (sym (tree-Implies c.get-in-Implies.result.now c.get-in-Implies-2.result.now c.in-Implies.a c.in-Implies.b c.args.term.now c.get-in-Implies.ensures c.get-in-Implies-2.ensures c.in-Implies.is))
-    (c.both.ensures (gnorm capped_maker (tree_of c.get-in-Implies.result.now) c.args.sort (not c.args.truth) c.args.ctx.now c.args.level) (gnorm capped_maker (tree_of c.get-in-Implies-2.result.now) c.args.sort c.args.truth c.args.ctx.now c.args.level) c.formula-x-in-Implies.ensures c.formula-y-in-Implies.ensures)
+    (c.both.ensures (gnorm capped_maker (tree_of c.get-in-Implies.result.now) c.args.sort (not c.args.truth) c.args.ctx.now c.args.level) (gnorm capped_maker (tree_of c.get-in-Implies-2.result.now) c.args.sort c.args.truth c.args.ctx.now c.args.level) c.formula-x.ensures c.formula-y.ensures)
 
 pub formula-returns-in-Ite : goal.formula-returns-in-Ite
 formula-returns-in-Ite t c =
     subst (λ (u : Term). IsBuilt (gnorm capped_maker u c.args.sort c.args.truth c.args.ctx.now c.args.level) c.choice_of.result) (sym (tree-Ite c.in-Ite.c c.in-Ite.a c.in-Ite.b c.in-Ite.c c.in-Ite.a c.in-Ite.b c.args.term.now refl refl refl c.in-Ite.is))
-    (c.choice_of.ensures (gnorm capped_maker (tree_of c.in-Ite.c) c.args.sort true c.args.ctx.now c.args.level) (gnorm capped_maker (tree_of c.in-Ite.c) c.args.sort false c.args.ctx.now c.args.level) (gnorm capped_maker (tree_of c.in-Ite.a) c.args.sort c.args.truth c.args.ctx.now c.args.level) (gnorm capped_maker (tree_of c.in-Ite.b) c.args.sort c.args.truth c.args.ctx.now c.args.level) (subst (λ (w : Written). IsBuilt (gnorm capped_maker (tree_of w) c.args.sort true c.args.ctx.now c.args.level) c.formula-yes.result) c.get-in-Ite.ensures c.formula-yes.ensures) (subst (λ (w : Written). IsBuilt (gnorm capped_maker (tree_of w) c.args.sort false c.args.ctx.now c.args.level) c.formula-no.result) c.get-in-Ite-2.ensures c.formula-no.ensures) (subst (λ (w : Written). IsBuilt (gnorm capped_maker (tree_of w) c.args.sort c.args.truth c.args.ctx.now c.args.level) c.formula-x-in-Ite.result) c.get-in-Ite-3.ensures c.formula-x-in-Ite.ensures) (subst (λ (w : Written). IsBuilt (gnorm capped_maker (tree_of w) c.args.sort c.args.truth c.args.ctx.now c.args.level) c.formula-y-in-Ite.result) c.get-in-Ite-4.ensures c.formula-y-in-Ite.ensures))
+    (c.choice_of.ensures (gnorm capped_maker (tree_of c.in-Ite.c) c.args.sort true c.args.ctx.now c.args.level) (gnorm capped_maker (tree_of c.in-Ite.c) c.args.sort false c.args.ctx.now c.args.level) (gnorm capped_maker (tree_of c.in-Ite.a) c.args.sort c.args.truth c.args.ctx.now c.args.level) (gnorm capped_maker (tree_of c.in-Ite.b) c.args.sort c.args.truth c.args.ctx.now c.args.level)
+    (subst (λ (w : Written). IsBuilt (gnorm capped_maker (tree_of w) c.args.sort true c.args.ctx.now c.args.level) c.both_ways-test.result.yes) c.get-in-Ite.ensures c.both_ways-test.ensures.yes)
+    (subst (λ (w : Written). IsBuilt (gnorm capped_maker (tree_of w) c.args.sort false c.args.ctx.now c.args.level) c.both_ways-test.result.no) c.get-in-Ite.ensures c.both_ways-test.ensures.no)
+    (subst (λ (w : Written). IsBuilt (gnorm capped_maker (tree_of w) c.args.sort c.args.truth c.args.ctx.now c.args.level) c.formula-x-in-Ite.result) c.get-in-Ite-2.ensures c.formula-x-in-Ite.ensures)
+    (subst (λ (w : Written). IsBuilt (gnorm capped_maker (tree_of w) c.args.sort c.args.truth c.args.ctx.now c.args.level) c.formula-y-in-Ite.result) c.get-in-Ite-3.ensures c.formula-y-in-Ite.ensures))
 
 pub pair_of-returns : goal.pair_of-returns
 pair_of-returns t c =
     subst (λ (z : Lin). AreBack (λ k. capped_maker.ite_form (gnorm capped_maker (test_part (tree_of c.args.term.now)) c.args.sort true c.args.ctx.now c.args.level) (gnorm capped_maker (test_part (tree_of c.args.term.now)) c.args.sort false c.args.ctx.now c.args.level) (k c.args.level z) (k c.args.level c.args.y)) c.pair_cases.result) c.in_ok-first.ensures
-    (c.pair_cases.ensures (gnorm capped_maker (test_part (tree_of c.args.term.now)) c.args.sort true c.args.ctx.now c.args.level) (gnorm capped_maker (test_part (tree_of c.args.term.now)) c.args.sort false c.args.ctx.now c.args.level) c.test-yes.ensures c.test-no.ensures)
+    (c.pair_cases.ensures (gnorm capped_maker (test_part (tree_of c.args.term.now)) c.args.sort true c.args.ctx.now c.args.level) (gnorm capped_maker (test_part (tree_of c.args.term.now)) c.args.sort false c.args.ctx.now c.args.level) c.test-by.ensures.yes c.test-by.ensures.no)

@@ -2,7 +2,7 @@ use Rattle.std.specs.Prelude.{true, false}
 use Rattle.norm_form.specs.Cap.{over2, over4}
 use Rattle.norm_form.specs.Norm.{either_by, ite_form}
 use Rattle.norm_form.proofs.Claiming.{built_same, ite_is}
-use Rattle.norm_form.proofs.claim.choice_of.Goals as goal
+use Rattle.norm_form.proofs.connective.choice_of.Goals as goal
 
 pub returns : goal.returns
 returns c = λ p n x y h k l m.

@@ -4,7 +4,7 @@ use Rattle.norm_form.specs.Cap.{over2, over4}
 use Rattle.norm_form.specs.Norm.{either_by, same_form}
 use Rattle.norm_form.specs.View.{IsBuilt}
 use Rattle.norm_form.proofs.Claiming.{built_same, same_is, other_is}
-use Rattle.norm_form.proofs.claim.same_of.Goals as goal
+use Rattle.norm_form.proofs.connective.same_of.Goals as goal
 
 pub returns-then-truth : goal.returns-then-truth
 returns-then-truth c = λ x u y w h k l m.
