@@ -7,3 +7,4 @@ pub mod Directs
 pub mod Forming
 pub mod Constants
 pub mod Lists
+pub mod Whole

@@ -1,5 +1,5 @@
 -- A term without a choice: its linear form, and the forms on the way to it, worked out directly.
-use Rattle.std.specs.Prelude.{List, [], ◌∷◌, ◌++◌, Bool, true, false, ◌&&◌, cond}
+use Rattle.std.specs.Prelude.{ℕ, ℤ, List, [], ◌∷◌, ◌++◌, Bool, true, false, ◌&&◌, cond}
 use Rattle.lin_truth.specs.Term.{Term, Terms, amount, variable, negative, absolute, minus, quotient_of, div_of, mod_of, plus_of, times_of, no_term, term_and}
 use Rattle.lin_truth.specs.Value.{zero_value, one_value}
 use Rattle.lin_truth.specs.Constant.{is_constant, are_constant}
@@ -72,3 +72,7 @@ abbrev mutual
   pub made_product : Terms → List Bound → Lin → List Lin
   made_product no_term ctx x = []
   made_product (term_and t ts) ctx x = made t ctx ++ (lin_times x (direct t ctx) ∷ made_product ts ctx (lin_times x (direct t ctx)))
+
+-- the factors of a whole number times a variable
+abbrev pub multiple : ℤ → ℕ → Terms
+multiple n i = term_and (amount (record { num = n; den = 1 })) (term_and (variable i) no_term)

@@ -1,9 +1,10 @@
 //! Terms without a choice, worked out without lists of cases.
 
-ghost use Rattle.std.specs.Prelude.{◌≡◌};
-ghost use Rattle.lin_truth.specs.View.{tree_of, trees_of};
+ghost use Rattle.std.specs.Prelude.{◌≡◌, IfSome};
+ghost use Rattle.lin_truth.specs.Term.{amount, variable as variable_of};
+ghost use Rattle.lin_truth.specs.View.{den_of, tree_of, trees_of};
 ghost use Rattle.lin_truth.specs.Value.{zero_value, one_value};
-ghost use Rattle.lin_form.specs.Direct.{direct as direct_lin, direct_sum as sum_lin, direct_product as product_lin, made, made_sum, made_product};
+ghost use Rattle.lin_form.specs.Direct.{direct as direct_lin, direct_sum as sum_lin, direct_product as product_lin, made, made_sum, made_product, multiple as multiple_terms};
 ghost use Rattle.lin_form.specs.Low.{as_lin};
 ghost use Rattle.lin_form.specs.Outcome.{Formed};
 
@@ -11,7 +12,7 @@ use crate::constant::constant_form;
 use crate::fault::FormFault;
 use crate::form::LinForm;
 use crate::kinds::is_constant;
-use crate::leaf::{level_of, number, variable};
+use crate::leaf::{level_of, multiple, number, variable};
 use crate::scope::Bound;
 use crate::step::{Operation, negated, operated, quotient, stepped};
 use lin_term::Row;
@@ -68,11 +69,44 @@ fn direct_sum(alloc: Global, ctx: &[Bound], terms: &[Term]) -> Result<LinForm, F
     Ok(total)
 }
 
+/// A whole number and a variable, where these are the two terms.
+fn number_and_variable(first: &Term, second: &Term) -> Option<(i64, u32)>
+    ensures { IfSome result (λ m. (tree_of first.now ≡ amount (record { num = m.0; den = 1 })) × (tree_of second.now ≡ variable_of m.1)) }
+{
+    match first {
+        Term::Number { num, den } => match second {
+            Term::Var(i) => whole_number(*num, *den, *i),
+            _ => None,
+        },
+        _ => None,
+    }
+}
+
+/// The number and the place, where the denominator is 1.
+fn whole_number(num: i64, den: i64, place: u32) -> Option<(i64, u32)>
+    ensures { IfSome result (λ m. (den_of den ≡ 1) × (m.0 ≡ num) × (m.1 ≡ place)) }
+{
+    if den == 1 { Some((num, place)) } else { None }
+}
+
+/// A whole number and a variable, where the terms are these two.
+fn multiple_in(terms: &[Term]) -> Option<(i64, u32)>
+    ensures { IfSome result (λ m. trees_of terms.now ≡ multiple_terms m.0 m.1) }
+{
+    match terms {
+        [first, second] => number_and_variable(first, second),
+        _ => None,
+    }
+}
+
 /// The product from left to right.
 #[cycle(direct_form)]
 fn direct_product(alloc: Global, ctx: &[Bound], terms: &[Term]) -> Result<LinForm, FormFault>
     ensures { Formed (made_product (trees_of terms.now) ctx.now (as_lin one_value)) (product_lin (trees_of terms.now) ctx.now (as_lin one_value)) result }
 {
+    if let Some((num, place)) = multiple_in(terms) {
+        return multiple(alloc, ctx, num, place);
+    }
     let mut total = LinForm::whole(Row::constant(alloc, 1));
     for term in terms {
         let next = direct_form(alloc, ctx, term);

@@ -57,6 +57,9 @@ fn common_of(
     ensures least { 1 ≤ result }
     ensures greatest { result ≤ den }
 {
+    if den == 1 {
+        return 1;
+    }
     let start = gcd_of(den, constant.unsigned_abs());
     common_of_sum(start, 0, p, left, q, right, NONE)
 }

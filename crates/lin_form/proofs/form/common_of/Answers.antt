@@ -3,6 +3,7 @@ use Rattle.lin_term.specs.Linear.{plus_terms, times_terms}
 use Rattle.lin_term.specs.Literal.{gcd, gcd_terms, or_one}
 use Rattle.lin_term.specs.Blend.{sum_terms}
 use Rattle.lin_form.proofs.Dividing.{sum_none, common_value, common_least, common_greatest}
+use Rattle.lin_form.proofs.Whole.{gcd_one}
 use Rattle.lin_form.proofs.form.common_of.Goals as goal
 
 value : (c : goal.After-common_of_sum) → c.common_of_sum.result ≡ or_one (gcd c.args.den (gcd (nat_abs c.args.constant) (gcd_terms (plus_terms (times_terms c.args.p c.args.left.now) (times_terms c.args.q c.args.right.now)))))
@@ -23,3 +24,7 @@ returns-clause-least c = common_least c.args.den _ c.common_of_sum.result c.requ
 
 pub returns-clause-greatest : goal.returns-clause-greatest
 returns-clause-greatest c = common_greatest c.args.den _ c.common_of_sum.result c.requires.den_least (value c)
+
+pub returns-then-den-eq1-clause-value : goal.returns-then-den-eq1-clause-value
+returns-then-den-eq1-clause-value c =
+    gcd_one c.args.den (gcd (nat_abs c.args.constant) (gcd_terms (plus_terms (times_terms c.args.p c.args.left.now) (times_terms c.args.q c.args.right.now)))) (omega (arith, c.if-den-eq1.true))
