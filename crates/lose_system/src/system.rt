@@ -82,10 +82,11 @@ impl<'a, D: Domain> System<'a, D> {
         self.ends.len() as u32
     }
 
-    /// The formula that each path negates.
+    /// The formula that each path negates. Its type keeps the problem, and a skeleton of it.
     pub fn matrix(&self) -> &'a Matrix
         ensures value { result.now ≡ self.now.problem.matrix }
         ensures kept { IsProblem D.SORT self.now.problem }
+        ensures skeleton { IsSkeleton D.SORT (problem_of self.now.problem) (skeleton_of self.now.tree) }
     {
         self.problem.matrix()
     }

@@ -10,3 +10,4 @@ pub mod StackLemmas
 pub mod CheckLemmas
 pub mod Checking
 pub mod Refuted
+pub mod FirstBad

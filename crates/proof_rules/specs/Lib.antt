@@ -3,3 +3,4 @@ pub mod Checked
 pub mod Left
 pub mod Held
 pub mod Stack
+pub mod Begun

@@ -1,11 +1,15 @@
 //! The check of a proof: its lines are read once, in order.
 
-ghost use Rattle.std.specs.Prelude.{◌≡◌, [], ◌∷◌, false, OnOk, IfOk, MatchOption, Option, Some, None};
-ghost use Rattle.dom_core.specs.Problem.{problem_of};
+ghost use Rattle.std.specs.Prelude.{◌≡◌, [], ◌∷◌, false, OnOk, IfOk, MatchOption, Option, Some, None, Err};
+ghost use Rattle.lin_term.specs.declared.Short.TheVariants.{Fault};
+ghost use Rattle.dom_core.specs.Problem.{problem_of, IsTrueProblem};
 ghost use Rattle.game_tree.specs.View.{skeleton_of};
 ghost use Rattle.lose_system.specs.Written.{system_of};
+ghost use Rattle.lose_system.specs.Losing.{Lost};
 ghost use Rattle.proof_rules.specs.Rules.{apply as apply_rule};
 ghost use Rattle.proof_rules.specs.Checked.{Judged, first_bad};
+ghost use Rattle.proof_rules.specs.Begun.{IsFirstBad};
+ghost use Rattle.proof_rules.specs.declared.bad_line.BadLine.{BadLine};
 ghost use Rattle.proof_rules.specs.Held.{context_of, AreFacts, Leaves};
 
 use crate::bad_line::BadLine;
@@ -91,8 +95,14 @@ pub fn check<D: Domain>(
     system: &System<'_, D>,
     proof: &[Step],
 ) -> Result<(), Short<BadLine>>
-    ensures { Judged D.SORT (problem_of system.now.problem) (skeleton_of system.now.tree) proof.now result }
+    ensures judged { Judged D.SORT (problem_of system.now.problem) (skeleton_of system.now.tree) proof.now result }
+    // What is refuted has no solution, and the problem is true: the owner of the skeleton wins.
+    ensures lost { IfOk result (λ _. Lost D.SORT (problem_of system.now.problem) (skeleton_of system.now.tree)) }
+    ensures wins { IfOk result (λ _. IsTrueProblem D.SORT system.now.problem) }
+    // No tree of lines goes on at the line that is named.
+    ensures first { (b : BadLine) → result ≡ Err (Fault b) → IsFirstBad D.SORT (problem_of system.now.problem) (skeleton_of system.now.tree) proof.now b }
 {
+    let _kept = system.matrix();
     match first_bad_line(alloc, system, proof) {
         Ok(None) => Ok(()),
         Ok(Some(bad)) => Err(Short::Fault(bad)),
