@@ -1,10 +1,11 @@
 //! Numbers, each the next word of a line.
 
-ghost use Rattle.std.specs.Prelude.{◌≡◌, ◌≤◌, ◌<◌, ◌+◌, ◌^◌, length, IfOk, nat_abs, pos, ◌≢◌};
+ghost use Rattle.std.specs.Prelude.{◌≡◌, ◌≤◌, ◌<◌, ◌+◌, ◌^◌, length, IfOk, IfErr, nat_abs, pos, ◌≢◌};
 ghost use Rattle.lin_term.specs.Form.{cap};
 ghost use Rattle.strat_words.specs.Spot.{Gives, Spot};
 ghost use Rattle.strat_words.specs.View.{spot};
 ghost use Rattle.strat_words.specs.Taking as spec;
+ghost use Rattle.strat_words.specs.declared.fault.FileFault.TheVariants.{Memory};
 
 use crate::cursor::Cursor;
 use crate::fault::FileFault;
@@ -18,6 +19,7 @@ pub fn natural(at: Cursor<'_>, low: u128, limit: u128) -> Result<(u128, Cursor<'
     ensures least { IfOk result (λ x. low ≤ x.0) }
     ensures below { IfOk result (λ x. x.0 < limit) }
     ensures shorter { IfOk result (λ x. length x.1.rest.now < length at.entry.rest.now) }
+    ensures place { IfErr result (λ e. e ≢ Memory) }
 {
     let (word, after) = next(at)?;
     match natural_of(word, low, limit) {
@@ -33,6 +35,7 @@ pub fn signed(at: Cursor<'_>, limit: u128) -> Result<(i128, Cursor<'_>), FileFau
     ensures gives { Gives (λ x. (x.0, spot x.1)) result (spec.signed limit (spot at.entry)) }
     ensures below { IfOk result (λ x. nat_abs x.0 < limit) }
     ensures shorter { IfOk result (λ x. length x.1.rest.now < length at.entry.rest.now) }
+    ensures place { IfErr result (λ e. e ≢ Memory) }
 {
     let (word, after) = next(at)?;
     match signed_of(word, limit) {
@@ -51,6 +54,7 @@ const PAST_INDEX: u128 = 4_294_967_296;
 pub fn index(at: Cursor<'_>) -> Result<(u32, Cursor<'_>), FileFault>
     ensures gives { Gives (λ x. (x.0, spot x.1)) result (spec.index (spot at.entry)) }
     ensures shorter { IfOk result (λ x. length x.1.rest.now < length at.entry.rest.now) }
+    ensures place { IfErr result (λ e. e ≢ Memory) }
 {
     let (n, after) = natural(at, 0, PAST_INDEX)?;
     Ok((n as u32, after))
@@ -62,6 +66,7 @@ pub fn count(at: Cursor<'_>, low: u128) -> Result<(u64, Cursor<'_>), FileFault>
     ensures least { IfOk result (λ x. low ≤ x.0) }
     ensures within { IfOk result (λ x. x.0 ≤ cap) }
     ensures shorter { IfOk result (λ x. length x.1.rest.now < length at.entry.rest.now) }
+    ensures place { IfErr result (λ e. e ≢ Memory) }
 {
     let (n, after) = natural(at, low, PAST_CAP)?;
     Ok((n as u64, after))
@@ -72,6 +77,7 @@ pub fn kept(at: Cursor<'_>) -> Result<(i64, Cursor<'_>), FileFault>
     ensures gives { Gives (λ x. (x.0, spot x.1)) result (spec.kept (spot at.entry)) }
     ensures within { IfOk result (λ x. nat_abs x.0 ≤ cap) }
     ensures shorter { IfOk result (λ x. length x.1.rest.now < length at.entry.rest.now) }
+    ensures place { IfErr result (λ e. e ≢ Memory) }
 {
     let (z, after) = signed(at, PAST_CAP)?;
     Ok((z as i64, after))
@@ -81,6 +87,7 @@ pub fn kept(at: Cursor<'_>) -> Result<(i64, Cursor<'_>), FileFault>
 pub fn coef(at: Cursor<'_>) -> Result<(i64, Cursor<'_>), FileFault>
     ensures gives { Gives (λ x. (x.0, spot x.1)) result (spec.coef (spot at.entry)) }
     ensures shorter { IfOk result (λ x. length x.1.rest.now < length at.entry.rest.now) }
+    ensures place { IfErr result (λ e. e ≢ Memory) }
 {
     let (word, after) = next(at)?;
     match coef_of(word) {

@@ -1,10 +1,10 @@
 //! The words and lines of a text.
 
-ghost use Rattle.std.specs.Prelude.{◌≡◌, ◌≤◌, ◌<◌, ◌+◌, ◌^◌, ℕ, List, length, take, drop, IfOk, IsTrue, ◌↔◌};
+ghost use Rattle.std.specs.Prelude.{◌≡◌, ◌≤◌, ◌<◌, ◌+◌, ◌^◌, ℕ, List, length, take, drop, IfOk, IfErr, Ok, ◌≢◌};
 ghost use Rattle.std.specs.List.{prefix_len};
 ghost use Rattle.strat_words.specs.Spot.{Gives, first, next, ends, is, start, next_place, last_place, Spot, word_at, fits, word_len, goes_on, number_follows, no_more};
 ghost use Rattle.strat_words.specs.View.{spot};
-ghost use Rattle.strat_words.specs.declared.fault.FileFault.TheVariants.{Bad};
+ghost use Rattle.strat_words.specs.declared.fault.FileFault.TheVariants.{Bad, Memory};
 
 use crate::cursor::Cursor;
 use crate::fault::FileFault;
@@ -58,6 +58,7 @@ fn word_at<'a>(at: Cursor<'a>, z: &'a [u8]) -> Result<Word<'a>, FileFault>
     requires { length z.now ≤ length at.rest.now }
     ensures gives { Gives (λ w. (w.0.now, spot w.1)) result (word_at (spot at.entry) z.now) }
     ensures shorter { IfOk result (λ w. length w.1.rest.now < length at.entry.rest.now) }
+    ensures place { IfErr result (λ e. e ≢ Memory) }
 {
     let len = word_len(z);
     if len == 0 {
@@ -76,6 +77,7 @@ fn word_at<'a>(at: Cursor<'a>, z: &'a [u8]) -> Result<Word<'a>, FileFault>
 pub fn first(at: Cursor<'_>) -> Result<Word<'_>, FileFault>
     ensures gives { Gives (λ w. (w.0.now, spot w.1)) result (first (spot at.entry)) }
     ensures shorter { IfOk result (λ w. length w.1.rest.now < length at.entry.rest.now) }
+    ensures place { IfErr result (λ e. e ≢ Memory) }
 {
     word_at(at, at.rest)
 }
@@ -85,6 +87,7 @@ pub fn first(at: Cursor<'_>) -> Result<Word<'_>, FileFault>
 pub fn next(at: Cursor<'_>) -> Result<Word<'_>, FileFault>
     ensures gives { Gives (λ w. (w.0.now, spot w.1)) result (next (spot at.entry)) }
     ensures shorter { IfOk result (λ w. length w.1.rest.now < length at.entry.rest.now) }
+    ensures place { IfErr result (λ e. e ≢ Memory) }
 {
     match at.rest {
         [b' ', rest @ ..] => word_at(at, rest),
@@ -97,6 +100,7 @@ pub fn next(at: Cursor<'_>) -> Result<Word<'_>, FileFault>
 pub fn ends(at: Cursor<'_>) -> Result<Cursor<'_>, FileFault>
     ensures gives { Gives spot result (ends (spot at.entry)) }
     ensures shorter { IfOk result (λ a. length a.rest.now < length at.entry.rest.now) }
+    ensures place { IfErr result (λ e. e ≢ Memory) }
 {
     match at.rest {
         [b'\n', rest @ ..] => Ok(Cursor {
@@ -131,6 +135,7 @@ pub fn number_follows(at: Cursor<'_>) -> bool
 /// The same place, where the line has no further word; else the fault of that word.
 pub fn no_more(at: Cursor<'_>) -> Result<Cursor<'_>, FileFault>
     ensures gives { Gives spot result (no_more (spot at.entry)) }
+    ensures place { IfErr result (λ e. e ≢ Memory) }
 {
     if goes_on(at) {
         return Err(next_fault(at));
@@ -138,12 +143,13 @@ pub fn no_more(at: Cursor<'_>) -> Result<Cursor<'_>, FileFault>
     Ok(at)
 }
 
-/// The place behind the first word of a line, which is a given one.
-pub fn first_is<'a>(at: Cursor<'a>, known: &[u8]) -> Result<Cursor<'a>, FileFault>
-    ensures gives { Gives spot result (is known.now (first (spot at.entry))) }
-    ensures shorter { IfOk result (λ a. length a.rest.now < length at.entry.rest.now) }
+/// The place behind a word that is a given one; another word is the fault.
+fn known<'a>(taken: Word<'a>, known: &[u8]) -> Result<Cursor<'a>, FileFault>
+    ensures gives { Gives spot result (is known.now (Ok (taken.entry.0.now, spot taken.entry.1))) }
+    ensures same { IfOk result (λ a. a ≡ taken.entry.1) }
+    ensures place { IfErr result (λ e. e ≢ Memory) }
 {
-    let (word, at) = first(at)?;
+    let (word, at) = taken;
     if word == known {
         Ok(at)
     } else {
@@ -151,15 +157,22 @@ pub fn first_is<'a>(at: Cursor<'a>, known: &[u8]) -> Result<Cursor<'a>, FileFaul
     }
 }
 
-/// The same of a further word.
-pub fn next_is<'a>(at: Cursor<'a>, known: &[u8]) -> Result<Cursor<'a>, FileFault>
-    ensures gives { Gives spot result (is known.now (next (spot at.entry))) }
+/// The place behind the first word of a line, which is a given one.
+pub fn first_is<'a>(at: Cursor<'a>, word: &[u8]) -> Result<Cursor<'a>, FileFault>
+    ensures gives { Gives spot result (is word.now (first (spot at.entry))) }
     ensures shorter { IfOk result (λ a. length a.rest.now < length at.entry.rest.now) }
+    ensures place { IfErr result (λ e. e ≢ Memory) }
 {
-    let (word, at) = next(at)?;
-    if word == known {
-        Ok(at)
-    } else {
-        Err(last_fault(at))
-    }
+    let taken = first(at)?;
+    known(taken, word)
+}
+
+/// The same of a further word.
+pub fn next_is<'a>(at: Cursor<'a>, word: &[u8]) -> Result<Cursor<'a>, FileFault>
+    ensures gives { Gives spot result (is word.now (next (spot at.entry))) }
+    ensures shorter { IfOk result (λ a. length a.rest.now < length at.entry.rest.now) }
+    ensures place { IfErr result (λ e. e ≢ Memory) }
+{
+    let taken = next(at)?;
+    known(taken, word)
 }
