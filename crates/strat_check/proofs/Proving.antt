@@ -1,5 +1,5 @@
 -- What an accepted section proves.
-use Rattle.std.specs.Prelude.{ℕ, suc, ◌+◌, ◌^◌, ◌<◌, ◌≤◌, ◌≡◌, ◌↔◌, IfOk, Result, Ok, Err, Bool, true, false, if◌then◌else◌, Option, Some, None, List, [], ◌∷◌, ◌++◌, length}
+use Rattle.std.specs.Prelude.{ℕ, ◌+◌, ◌^◌, ◌<◌, ◌≤◌, ◌≡◌, ◌↔◌, IfOk, Result, Ok, Err, Bool, true, false, if◌then◌else◌, Option, Some, None, List, [], ◌∷◌, length}
 use Rattle.std.proofs.Common.{arith, ap, ◌∙◌, sym, subst, refl}
 use Rattle.lin_term.specs.declared.Sort.{Sort}
 use Rattle.lin_term.specs.declared.Memory.{Memory}
@@ -20,15 +20,14 @@ use Rattle.cube_rules.specs.declared.Step.{Step}
 use Rattle.cube_rules.specs.declared.Rule.TheVariants as rule
 use Rattle.proof_rules.specs.declared.BadLine.{BadLine}
 use Rattle.proof_rules.specs.Rules.{Refutes}
-use Rattle.cube_rules.specs.Context.{Context, open_context}
-use Rattle.cube_rules.specs.Closing.{Rules}
-use Rattle.cube_rules.specs.Lines.{rule_of}
+use Rattle.cube_rules.specs.Context.{open_context}
 use Rattle.lose_system.specs.Losing.{system}
 use Rattle.proof_rules.specs.Rules.{apply}
 use Rattle.lose_system.specs.Written.{WrittenSystem}
-use Rattle.proof_rules.specs.Checked.{Judged, first_bad, first_bad_from, or_bad, bad_line}
+use Rattle.proof_rules.specs.Checked.{Judged, first_bad}
 use Rattle.proof_rules.proofs.Checking.{passes_refutes, refutes_passes}
-use Rattle.proof_rules.proofs.Refuted.{refuted_is_true}
+use Rattle.proof_rules.proofs.FirstBad.{bad_within}
+use Rattle.proof_rules.proofs.Refuted.{refuted_is_lost, refuted_is_true}
 use Rattle.strat_text.specs.declared.Section.{Section}
 use Rattle.strat_text.specs.declared.Section.TheVariants as section
 use Rattle.strat_text.specs.Spelling.{IsSection}
@@ -36,7 +35,7 @@ use Rattle.strat_text.specs.Spelling as spelling
 use Rattle.strat_check.specs.declared.checked.Checked.{Checked}
 use Rattle.strat_check.specs.declared.checked.Checked.TheVariants as checked
 use Rattle.strat_check.specs.Section.{owner_problem, turns_of, same_turns, tree_lines, bad_move, by_proof, by_move, judged, verdict}
-use Rattle.strat_check.specs.Accepted.{EachKept, Proves, Accepts}
+use Rattle.strat_check.specs.Accepted.{EachKept, Proves, Accepts, IsLost}
 use Rattle.strat_check.proofs.Walking.{none_seen, seen_none, tree_lines_few}
 use Rattle.strat_check.proofs.Turning.{turns_equal, equal_turns}
 use Rattle.strat_check.proofs.Follows.{follows}
@@ -126,30 +125,35 @@ accepted_false s P (section.Claimed side.Forall turns tree proof line) o w h t =
 accepted_false s P (section.Claimed side.Exists turns tree proof line) o w h t =
     let a = accepted_accepts s P side.Forall (section.Claimed side.Exists turns tree proof line) h in absurd (let e : side.Exists ≡ side.Forall = a.0 in cc)
 
+-- no point solves the losing system of an accepted tree
+accepted_lost : (s : Sort) (P : Problem) (owner : Side) (x : Section) → IsMatrix P.matrix s (length P.prefix) → verdict s P x ≡ checked.Accepted owner → IsLost s P owner x
+accepted_lost s P owner section.Unknown o h = absurd (cc)
+accepted_lost s P side.Exists (section.Claimed claimed turns tree proof line) o h =
+    let a = accepted_accepts s P side.Exists (section.Claimed claimed turns tree proof line) h in
+    refuted_is_lost s P (skeleton_of tree) proof o a.1.refutes
+accepted_lost s P side.Forall (section.Claimed claimed turns tree proof line) o h =
+    let a = accepted_accepts s P side.Forall (section.Claimed claimed turns tree proof line) h in
+    refuted_is_lost s (dual s P) (skeleton_of tree) proof (dual_matrix s P o) a.1.refutes
+
+pub result_lost : (s : Sort) (P : Problem) (x : Section) (r : Result Checked Memory) → IsMatrix P.matrix s (length P.prefix) → IfOk r (λ c. c ≡ verdict s P x) →
+    IfOk r (λ c. (owner : Side) → c ≡ checked.Accepted owner → IsLost s P owner x)
+result_lost s P x (Ok c) o h = λ owner e. accepted_lost s P owner x o (sym h ∙ e)
+result_lost s P x (Err e) o h = tt
+
 -- ---- the answers of the calls
 
-or_few : (m : ℕ) (b0 b : BadLine) (go : List Context → Option BadLine) (o : Option (List Context)) → or_bad b0 go o ≡ Some b → b0.line ≤ m → ((ks : List Context) → go ks ≡ Some b → b.line ≤ m) → b.line ≤ m
-or_few m b0 b go None e l f = let q : b0 ≡ b = cc in subst (λ (x : BadLine). x.line ≤ m) q l
-or_few m b0 b go (Some ks) e l f = f ks e
-
-bad_within : (rules : Rules) (ls : List Step) (cs : List Context) (n : ℕ) (b : BadLine) → first_bad_from rules cs ls n ≡ Some b → b.line ≤ n + length ls
-bad_within rules [] [] n b e = absurd (cc)
-bad_within rules [] (c ∷ cs) n b e = let q : bad_line n rule.Form ≡ b = cc in subst (λ (x : BadLine). x.line ≤ n + 0) q (omega arith)
-bad_within rules (l ∷ ls) [] n b e = let q : bad_line n rule.Form ≡ b = cc in subst (λ (x : BadLine). x.line ≤ n + length (l ∷ ls)) q (omega arith)
-bad_within rules (l ∷ ls) (c ∷ cs) n b e =
-    or_few (n + length (l ∷ ls)) (bad_line n (rule_of l)) b (λ ks. first_bad_from rules (ks ++ cs) ls (suc n)) (rules c l) e (omega arith)
-    (λ ks h. let k = bad_within rules ls (ks ++ cs) (suc n) b h in omega arith)
-
 -- a bad line is one of the proof, or the one behind its last
-pub bad_few : (s : Sort) (P : Problem) (S : Skeleton) (proof : List Step) (b : BadLine) → first_bad s P S proof ≡ Some b → b.line ≤ length proof
+bad_few : (s : Sort) (P : Problem) (S : Skeleton) (proof : List Step) (b : BadLine) → first_bad s P S proof ≡ Some b → b.line ≤ length proof
 bad_few s P S proof b e = let h = bad_within (apply s (system s P S)) proof (open_context ∷ []) 0 b e in omega arith
 
-pub judged_accepted : (s : Sort) (P : Problem) (owner : Side) (turns : List Bool) (S : Skeleton) (proof : List Step) (line : ℕ) →
-    same_turns turns (turns_of P.prefix) ≡ true → bad_move S s (line + 2) 0 ≡ None → Refutes s P S proof → checked.Accepted owner ≡ judged s P owner turns S proof line
-judged_accepted s P owner turns S proof line t m r =
-    sym (take_true (same_turns turns (turns_of P.prefix)) (by_move (by_proof owner (line + 3 + tree_lines S) (first_bad s P S proof)) (bad_move S s (line + 2) 0)) (checked.Rejected (line + 1) rule.Turns) t
-    ∙ ap (by_move (by_proof owner (line + 3 + tree_lines S) (first_bad s P S proof))) m
-    ∙ ap (by_proof owner (line + 3 + tree_lines S)) (refutes_passes s P S proof r))
+-- the turns fit and each move is kept: the proof decides
+pub claim_judged : (s : Sort) (P : Problem) (owner : Side) (turns : List Bool) (S : Skeleton) (proof : List Step) (line at : ℕ) →
+    same_turns turns (turns_of P.prefix) ≡ true → bad_move S s (line + 2) 0 ≡ None → at ≡ (line + 2) + tree_lines S → by_proof owner (at + 1) (first_bad s P S proof) ≡ judged s P owner turns S proof line
+claim_judged s P owner turns S proof line at t m a =
+    let n : at + 1 ≡ line + 3 + tree_lines S = omega arith in
+    ap (λ (k : ℕ). by_proof owner k (first_bad s P S proof)) n
+    ∙ sym (take_true (same_turns turns (turns_of P.prefix)) (by_move (by_proof owner (line + 3 + tree_lines S) (first_bad s P S proof)) (bad_move S s (line + 2) 0)) (checked.Rejected (line + 1) rule.Turns) t
+    ∙ ap (by_move (by_proof owner (line + 3 + tree_lines S) (first_bad s P S proof))) m)
 
 pub claim_skeleton : (s : Sort) (P : Problem) (turns : List Bool) (tree : Tree) (line : ℕ) → same_turns turns (turns_of P.prefix) ≡ true → spelling.Follows turns 0 tree → bad_move (skeleton_of tree) s line 0 ≡ None → IsSkeleton s P (skeleton_of tree)
 claim_skeleton s P turns tree line t f m =
@@ -166,9 +170,13 @@ pub none_found : (S : Skeleton) (s t : Sort) (line : ℕ) (o : Option ℕ) → t
 none_found S s t line o e f h = ap (λ (u : Sort). bad_move S u line 0) (sym e) ∙ sym f ∙ h
 
 -- what the check of the lines found
-pub passed : (s : Sort) (P : WrittenProblem) (tree : Tree) (w : WrittenSystem) (proof : List Step) → w ≡ record { problem = P; tree = tree } →
+passed : (s : Sort) (P : WrittenProblem) (tree : Tree) (w : WrittenSystem) (proof : List Step) → w ≡ record { problem = P; tree = tree } →
     Refutes s (problem_of w.problem) (skeleton_of w.tree) proof → Refutes s (problem_of P) (skeleton_of tree) proof
 passed s P tree w proof e h = subst (λ (v : WrittenSystem). Refutes s (problem_of v.problem) (skeleton_of v.tree) proof) e h
+
+pub proof_accepted : (s : Sort) (P : WrittenProblem) (tree : Tree) (w : WrittenSystem) (proof : List Step) (owner : Side) (first : ℕ) → w ≡ record { problem = P; tree = tree } →
+    Refutes s (problem_of w.problem) (skeleton_of w.tree) proof → checked.Accepted owner ≡ by_proof owner first (first_bad s (problem_of P) (skeleton_of tree) proof)
+proof_accepted s P tree w proof owner first e h = sym (ap (by_proof owner first) (refutes_passes s (problem_of P) (skeleton_of tree) proof (passed s P tree w proof e h)))
 
 pub found_bad : (s : Sort) (P : WrittenProblem) (tree : Tree) (w : WrittenSystem) (proof : List Step) (f : Short BadLine) (b : BadLine) → w ≡ record { problem = P; tree = tree } →
     Judged s (problem_of w.problem) (skeleton_of w.tree) proof {A = Unit {0}} (Err f) → f ≡ short.Fault b → first_bad s (problem_of P) (skeleton_of tree) proof ≡ Some b
@@ -196,10 +204,16 @@ pub result_verdict : (s : Sort) (P : Problem) (x : Section) (c : Checked) (r : R
 result_verdict s P x c r h e = sym (subst (λ (o : Result Checked Memory). IfOk o (λ y. y ≡ verdict s P x)) e h)
 
 -- the line of a bad line of the proof fits 64 bits
-pub room_left : (s : Sort) (P : Problem) (S : Skeleton) (proof : List Step) (line at : ℕ) (b : BadLine) →
-    line < 2 ^ 63 → length proof ≤ 2 ^ 52 → at ≡ (line + 2) + tree_lines S → nodes S ≤ node_limit → first_bad s P S proof ≡ Some b → at + 1 + b.line < 2 ^ 64
-room_left s P S proof line at b l p a n f =
-    let h = bad_few s P S proof b f in let t = tree_lines_few S in omega arith
+pub bad_room : (s : Sort) (P : WrittenProblem) (tree : Tree) (proof : List Step) (count_line : ℕ) (b : BadLine) →
+    count_line + 1 + length proof < 2 ^ 64 → first_bad s (problem_of P) (skeleton_of tree) proof ≡ Some b → count_line + 1 + b.line < 2 ^ 64
+bad_room s P tree proof count_line b l f = let h = bad_few s (problem_of P) (skeleton_of tree) proof b f in omega arith
+
+pub claim_room : (s : Sort) (S : Skeleton) (proof : List Step) (line at : ℕ) →
+    line < 2 ^ 63 → length proof ≤ 2 ^ 52 → at ≡ (line + 2) + tree_lines S → bad_move S s (line + 2) 0 ≡ None → at + 1 + length proof < 2 ^ 64
+claim_room s S proof line at l p a m =
+    let n = none_seen S s (line + 2) 0 m in
+    let f = n.few (omega arith) in
+    let t = tree_lines_few S in omega arith
 
 -- ---- nothing is claimed
 

@@ -7,6 +7,7 @@ use Rattle.dom_core.specs.Game.{Problem}
 use Rattle.game_tree.specs.Skeleton.{Skeleton, Branches, end, theirs, mine, no_more, branch, nodes, node_limit}
 use Rattle.game_tree.specs.View.{skeleton_of}
 use Rattle.cube_rules.specs.declared.Step.{Step}
+use Rattle.lose_system.specs.Losing.{Lost}
 use Rattle.proof_rules.specs.Rules.{Refutes}
 use Rattle.strat_text.specs.declared.Section.{Section}
 use Rattle.strat_text.specs.declared.Section.TheVariants as section
@@ -35,3 +36,8 @@ abbrev pub Accepts : Sort → Problem → Side → Section → Type 0
 Accepts s P owner section.Unknown = ⊥
 Accepts s P owner (section.Claimed claimed turns tree proof line) =
     (claimed ≡ owner) × Proves s (owner_problem s owner P) turns (skeleton_of tree) proof
+
+-- no point solves the losing system of the claimed tree
+abbrev pub IsLost : Sort → Problem → Side → Section → Type 0
+IsLost s P owner section.Unknown = ⊥
+IsLost s P owner (section.Claimed claimed turns tree proof line) = Lost s (owner_problem s owner P) (skeleton_of tree)

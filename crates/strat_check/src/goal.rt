@@ -4,10 +4,12 @@ ghost use Rattle.std.specs.Prelude.{◌≡◌, ◌+◌, ◌≤◌, ◌<◌, ◌^
 ghost use Rattle.lin_term.specs.Form.{cap};
 ghost use Rattle.dom_core.specs.declared.Side.{Side};
 ghost use Rattle.dom_core.specs.Problem.{problem_of, IsTrueProblem};
+ghost use Rattle.game_tree.specs.Skeleton.{IsSkeleton};
 ghost use Rattle.game_tree.specs.View.{skeleton_of};
+ghost use Rattle.proof_rules.specs.Checked.{first_bad};
 ghost use Rattle.strat_text.specs.Spelling.{IsSection, Follows, line_of};
-ghost use Rattle.strat_check.specs.Section.{verdict, judged};
-ghost use Rattle.strat_check.specs.Accepted.{Accepts};
+ghost use Rattle.strat_check.specs.Section.{verdict, judged, by_proof};
+ghost use Rattle.strat_check.specs.Accepted.{Accepts, IsLost};
 
 use crate::checked::Checked;
 use crate::turns::fit;
@@ -29,6 +31,30 @@ fn rejected_at(count_line: u64, bad: BadLine) -> Checked
     Checked::Rejected {
         line: count_line + 1 + bad.line,
         rule: bad.rule,
+    }
+}
+
+/// The proof that every path of the tree loses; the count of its lines stands at this line of the file.
+fn check_proof<D: Domain>(
+    alloc: Global,
+    problem: &Problem<D>,
+    owner: Side,
+    tree: &Tree,
+    proof: &[Step],
+    count_line: u64,
+) -> Result<Checked, Memory>
+    requires skeleton { IsSkeleton D.SORT (problem_of problem.now) (skeleton_of tree.now) }
+    requires room { count_line + 1 + length proof.now < 2 ^ 64 }
+    ensures { IfOk result (λ c. c ≡ by_proof owner (count_line + 1) (first_bad D.SORT (problem_of problem.now) (skeleton_of tree.now) proof.now)) }
+{
+    let system = System::of(alloc, problem, tree)?;
+    let short = match check(alloc, &system, proof) {
+        Ok(()) => return Ok(Checked::Accepted(owner)),
+        Err(short) => short,
+    };
+    match short {
+        Short::Fault(bad) => Ok(rejected_at(count_line, bad)),
+        Short::Memory => Err(Memory),
     }
 }
 
@@ -63,15 +89,7 @@ fn check_claim<D: Domain>(
             rule: Rule::Move,
         });
     }
-    let system = System::of(alloc, problem, tree)?;
-    let short = match check(alloc, &system, proof) {
-        Ok(()) => return Ok(Checked::Accepted(owner)),
-        Err(short) => short,
-    };
-    match short {
-        Short::Fault(bad) => Ok(rejected_at(at.line, bad)),
-        Short::Memory => Err(Memory),
-    }
+    check_proof(alloc, problem, owner, tree, proof, at.line)
 }
 
 /// What a section is worth for the problem of its goal.
@@ -126,6 +144,7 @@ pub fn check_goal<D: Domain>(
     // What is accepted proves the verdict.
     ensures sat { result ≡ Ok (Checked.Accepted Side.Exists) → IsTrueProblem D.SORT problem.now }
     ensures unsat { result ≡ Ok (Checked.Accepted Side.Forall) → ¬ IsTrueProblem D.SORT problem.now }
+    ensures lost { IfOk result (λ c. (owner : Side) → c ≡ Checked.Accepted owner → IsLost D.SORT (problem_of problem.now) owner section.now) }
 {
     let _kept = problem.matrix();
     judge(alloc, problem, section)
