@@ -7,6 +7,7 @@ pub mod LeftLemmas
 pub mod LeastLemmas
 pub mod KnownLemmas
 pub mod StackLemmas
+pub mod SettleLemmas
 pub mod CheckLemmas
 pub mod Checking
 pub mod Refuted

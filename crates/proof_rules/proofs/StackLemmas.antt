@@ -53,7 +53,7 @@ cut_one old new x n e h =
 reverse_push : {A : Type 0} (xs : List A) (x : A) → reverse (xs ++ x ∷ []) ≡ x ∷ reverse xs
 reverse_push xs x = reverse-append xs (x ∷ [])
 
-facts-push : (s : Sort) (w : WrittenSystem) (fs : List Fact) (f : Fact) → AreFacts s w fs → IsFact s w f → AreFacts s w (fs ++ f ∷ [])
+pub facts-push : (s : Sort) (w : WrittenSystem) (fs : List Fact) (f : Fact) → AreFacts s w fs → IsFact s w f → AreFacts s w (fs ++ f ∷ [])
 facts-push s w [] f a k = (k, tt)
 facts-push s w (g ∷ fs) f a k = (a.0, facts-push s w fs f a.1 k)
 

@@ -62,6 +62,11 @@ pub record Moved (s : Sort) (w : WrittenSystem) (contexts : List Context) (old n
   pub stack : stack_of s w new ≡ contexts ++ rest_of_stack s w old
   pub kept : IsState s w new
 
+-- the same contexts
+pub record Settled (s : Sort) (w : WrittenSystem) (old new : State) : Type 0 where
+  pub stack : stack_of s w new ≡ stack_of s w old
+  pub kept : IsState s w new
+
 -- one more fact
 abbrev pub added : State → Fact → State
 added st f = record st { facts = st.facts ++ f ∷ [] }

@@ -10,7 +10,8 @@ ghost use Rattle.proof_rules.specs.Rules.{apply as apply_rule};
 ghost use Rattle.proof_rules.specs.Checked.{Judged, first_bad};
 ghost use Rattle.proof_rules.specs.Begun.{IsFirstBad};
 ghost use Rattle.proof_rules.specs.declared.bad_line.BadLine.{BadLine};
-ghost use Rattle.proof_rules.specs.Held.{context_of, AreFacts, Leaves};
+ghost use Rattle.proof_rules.specs.Held.{context_of, next_of, AreFacts, IsNext, Leaves};
+ghost use Rattle.proof_rules.specs.Stack.{current_of, IsState, Moved};
 
 use crate::bad_line::BadLine;
 use crate::cubes::cube;
@@ -52,6 +53,22 @@ fn apply<'a, D: Domain>(
     }
 }
 
+/// The contexts that a line leaves take the place of the current one, and its new fact is built.
+fn take_next<'a, D: Domain>(
+    alloc: Global,
+    system: &System<'a, D>,
+    state: &mut State<'a>,
+    next: Next<'a>,
+) -> Result<(), Memory>
+    requires kept { IsState D.SORT system.now state.old }
+    requires going { state.old.closed ≡ false }
+    requires next { IsNext D.SORT system.now next }
+    ensures { OnOk result (Moved D.SORT system.now (next_of D.SORT system.now (current_of D.SORT system.now state.old) next.entry) state.old state.new) }
+{
+    state.take(alloc, next)?;
+    state.settle(alloc, system)
+}
+
 /// The first bad line, none where the proof refutes.
 fn first_bad_line<D: Domain>(
     alloc: Global,
@@ -75,7 +92,7 @@ fn first_bad_line<D: Domain>(
                 rule: rule_of_step(step),
             }));
         };
-        state.take(alloc, next)?;
+        take_next(alloc, system, &mut state, next)?;
         line += 1;
     }
     if state.closed {

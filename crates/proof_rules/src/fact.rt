@@ -9,8 +9,8 @@ use lin_term::{Lit, Memory};
 use sqlite_items::Items;
 use std::rc::Rc;
 
-/// A fact: a part of the matrix on a path, negated and with the path's nodes only where a line reads it, so that it takes
-/// no memory of its own; or a literal that a line made.
+/// A fact: a part of the matrix on a path, which is negated and has the path's nodes for its variables, and takes no
+/// memory of its own; or a literal that a line made, or that was built of such a part.
 #[derive(Drop)]
 pub enum Fact<'a> {
     OnPath(u32, &'a Matrix),

@@ -1,4 +1,4 @@
-//! Facts read as literals. A literal on a path is negated and renamed only here.
+//! Facts read as literals. A literal of the matrix on a path is negated and renamed once, when it becomes a fact.
 
 ghost use Rattle.std.specs.Prelude.{◌≡◌, ℕ, Bool, Some, None, option_map, IfOk, IfSome, length, map, reverse, slice_get};
 ghost use Rattle.std.specs.Option.{option_copied};
@@ -48,6 +48,25 @@ fn made<D: Domain>(
     };
     let literal = negated(alloc, D::SORT, lit, names.as_slice())?;
     shared(alloc, literal)
+}
+
+/// The same fact; a literal of the matrix on a path is built, so that the lines that read it need not.
+pub fn settled<'a, D: Domain>(
+    alloc: Global,
+    system: &System<'a, D>,
+    fact: Fact<'a>,
+) -> Result<Fact<'a>, Memory>
+    requires { IsFact D.SORT system.now fact }
+    ensures value { IfOk result (λ f. fact_of D.SORT system.now f ≡ fact_of D.SORT system.now fact.entry) }
+    ensures kept { IfOk result (λ f. IsFact D.SORT system.now f) }
+{
+    match fact {
+        Fact::Known(lit) => Ok(Fact::Known(lit)),
+        Fact::OnPath(path, matrix) => match literal_of(matrix) {
+            Some(lit) => Ok(Fact::Known(made(alloc, system, path, lit)?)),
+            None => Ok(Fact::OnPath(path, matrix)),
+        },
+    }
 }
 
 /// The literal that the fact is, where it is one.

@@ -8,9 +8,10 @@ ghost use Rattle.lose_system.specs.Written.{WrittenSystem};
 
 use crate::fact::{Fact, Next};
 use crate::left::CasesLeft;
-use crate::literals::known_facts;
-use dom_core::Matrix;
+use crate::literals::{known_facts, settled};
+use dom_core::{Domain, Matrix};
 use lin_term::{Lit, Memory};
+use lose_system::System;
 use sqlite_items::Items;
 use std::alloc::Global;
 use std::rc::Rc;
@@ -52,7 +53,7 @@ fn cut(facts: &mut Items<Fact<'_>>, len: usize)
 }
 
 ghost use Rattle.proof_rules.specs.declared.state.Rest.TheVariants.{Children};
-ghost use Rattle.proof_rules.specs.Stack.{IsState, IsRest, Moved, rest_of, current_of, added, waited};
+ghost use Rattle.proof_rules.specs.Stack.{IsState, IsRest, Moved, Settled, rest_of, current_of, added, waited};
 ghost use Rattle.proof_rules.specs.Held.{fact_of, next_of, AreFacts, IsNext};
 ghost use Rattle.proof_rules.specs.Left.{left_cases};
 
@@ -176,6 +177,18 @@ impl<'a> State<'a> {
             Next::Least(left) => self.next_case(alloc, left),
             Next::Closed => self.advance(alloc),
         }
+    }
+
+    /// The last fact is built, where it is a literal of the matrix on a path.
+    pub fn settle<D: Domain>(&mut self, alloc: Global, system: &System<'a, D>) -> Result<(), Memory>
+        requires { IsState D.SORT system.now self.old }
+        ensures { OnOk result (Settled D.SORT system.now self.old self.new) }
+    {
+        let Some(fact) = self.facts.pop() else {
+            return Ok(());
+        };
+        let built = settled(alloc, system, fact)?;
+        self.add(built)
     }
 
     /// The facts of the current context.
