@@ -1,0 +1,5 @@
+(set-logic LIA)
+(declare-const x Int)
+(declare-const y Int)
+(assert (and (= (* 2 x) y) (not ((_ divisible 2) y))))
+(check-sat)
