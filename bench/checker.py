@@ -13,6 +13,9 @@ The checker is the one that `rt run` leaves in crates/simcheck/out. GROUP is one
     atoms   a conjunction of as many atoms
     nested  as many quantifiers that alternate, and as many declared constants
     least   an elimination with as many cases
+    wide    a script of about as many bytes over 1,024 declared constants, each assertion a sum of twenty products
+    rows    a strategy file of about as many bytes in which each move has 999 coefficients, and its definition a line
+    long    a proof of as many `sum` lines, each over rows of 20 coefficients
 Instructions are counted by `valgrind --tool=callgrind`, peak memory by GNU time.
 """
 import argparse
@@ -81,6 +84,45 @@ def least(n):
     return text, f"simsat-strategy 1\ngoals 1\ngoal 0 unsat\nturns t\nt\nproof {n + 5}\npath 0\npart 0 0\npart 0 1\ncube 1 2\nleast 0 {n}\n{body}end\n", n
 
 
+def wide(size):
+    name = [f"constant_number_{i:04}" for i in range(1024)]
+    text = "(set-logic LRA)\n" + "".join(f"(declare-const {c} Real)\n" for c in name)
+    lines, k = [], 0
+    left = size - len(text)
+    while left > 0:
+        products = " ".join(f"(* {1000 + (37 * (k + j)) % 9000} {name[(k * 7 + j * 53) % 1024]})" for j in range(20))
+        lines.append(f"(assert (<= (+ {products}) {100000 + k}))\n")
+        left -= len(lines[-1])
+        k += 1
+    return text + "".join(lines) + "(check-sat)\n", UNKNOWN, size
+
+
+def rows(size):
+    binders = " ".join(f"(x{i} Real)" for i in range(999))
+    text = f"(set-logic LRA)\n(assert (forall ({binders}) (exists ((y Real)) (< x0 y))))\n(check-sat)\n"
+    moves = ["m 1 1 1 0\n"]
+    left = size
+    while left > 0:
+        k = len(moves)
+        moves.append(f"m 1 {k} " + " ".join(f"{1 + (k * 31 + j * 17) % 997} {j}" for j in range(999)) + "\n")
+        left -= len(moves[-1]) + 11
+    n = len(moves)
+    defs = "".join(f"def {999 + i} 0\n" for i in range(1, n))
+    proof = f"proof {n + 3}\n{defs}path 0\ndef 999 0\nsum 1 {n - 1} 1 {n} 1\nfalse {n + 1}\nend\n"
+    file = f"simsat-strategy 1\ngoals 1\ngoal 0 sat\nturns {'t' * 999}o\n{'t' + chr(10)}" + "t\n" * 998 + f"o {n}\n{''.join(moves)}{proof}"
+    return text, file, len(file)
+
+
+def long(n):
+    binders = " ".join(f"(x{i} Real)" for i in range(20))
+    total = " ".join(f"(* {i + 1} x{i})" for i in range(20))
+    text = f"(set-logic LRA)\n(assert (forall ({binders}) (exists ((y Real)) (< (+ {total}) y))))\n(check-sat)\n"
+    move = "m 1 1 " + " ".join(f"{i + 1} {i}" for i in range(20))
+    body = "sum 3 0 2 1 1\n" * n
+    file = f"simsat-strategy 1\ngoals 1\ngoal 0 sat\nturns {'t' * 20}o\n" + "t\n" * 20 + f"o 1\n{move}\nproof {n + 4}\npath 0\ndef 20 0\n{body}sum 1 0 1 1 1\nfalse {n + 2}\nend\n"
+    return text, file, n
+
+
 GROUPS = {
     "sums": (sums, (1000, 10000, 100000)),
     "paths": (paths, (1000, 10000, 100000)),
@@ -91,6 +133,9 @@ GROUPS = {
     "atoms": (atoms, (1000, 10000, 100000)),
     "nested": (nested, (125, 250, 500)),
     "least": (least, (2, 64, 4096)),
+    "wide": (wide, (1000000, 10000000)),
+    "rows": (rows, (1000000, 10000000)),
+    "long": (long, (10000, 100000)),
 }
 
 

@@ -7,8 +7,6 @@ mod rule;
 mod split;
 mod step;
 mod sum;
-#[cfg(test)]
-mod tests;
 
 pub use least::least_of;
 pub use literal::{is_false_literal, is_inequality_literal, is_primitive_literal, literal_within};

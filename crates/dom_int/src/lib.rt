@@ -10,6 +10,3 @@ mod place;
 
 pub use elimination::Elimination;
 pub use int::Int;
-
-#[cfg(test)]
-mod tests;

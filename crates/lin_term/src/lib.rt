@@ -29,6 +29,3 @@ pub use numbers::{floor_quotient, gcd_of, gcd_of_words, is_within};
 pub use primitive_form::{negate, primitive};
 pub use putting::{divides_in, put_in, substitute};
 pub use row::{CAP, Coefs, Row, Sort};
-
-#[cfg(test)]
-mod tests;

@@ -11,8 +11,6 @@ mod form;
 mod literal;
 mod normal;
 mod scope;
-#[cfg(test)]
-mod tests;
 mod walk;
 
 pub use count::{LIMIT, Rate, formula_count};

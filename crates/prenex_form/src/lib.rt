@@ -9,6 +9,3 @@ mod rename;
 mod tally;
 
 pub use problem::problem_of;
-
-#[cfg(test)]
-mod tests;

@@ -23,6 +23,3 @@ pub use setting::{is_keyword, is_offered, logic_named};
 
 // What a script asks.
 pub use script::{Script, read_script};
-
-#[cfg(test)]
-mod tests;

@@ -8,6 +8,3 @@ mod tokens;
 
 pub use token::{Token, TokenKind};
 pub use tokens::{Tokens, tokens_of};
-
-#[cfg(test)]
-mod tests;

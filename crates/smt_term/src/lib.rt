@@ -25,8 +25,3 @@ pub use part::{Part, bad, part_of};
 pub use reader::{Head, Reader, signature_of};
 pub use seen::{Seen, is_same};
 pub use word::{is_free, is_reserved, is_symbol, is_word, sort_of};
-
-#[cfg(test)]
-mod term_tests;
-#[cfg(test)]
-mod tests;

@@ -7,6 +7,3 @@ mod reading;
 
 pub use expr::Expr;
 pub use expressions::{Expressions, expressions_of};
-
-#[cfg(test)]
-mod tests;

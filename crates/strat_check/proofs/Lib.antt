@@ -3,4 +3,4 @@ pub mod Turning
 pub mod Walking
 pub mod Follows
 pub mod Proving
-mod ExampleLemmas
+pub mod ExampleLemmas

@@ -8,6 +8,3 @@ mod walk;
 
 pub use checked::Checked;
 pub use goal::check_goal;
-
-#[cfg(test)]
-mod tests;

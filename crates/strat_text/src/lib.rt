@@ -21,6 +21,3 @@ pub use writing::write_file;
 
 // That a file and its sections give each other.
 pub use unique::{one_spelling, one_value};
-
-#[cfg(test)]
-mod tests;

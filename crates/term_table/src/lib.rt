@@ -24,6 +24,3 @@ pub use amount::{Amount, Weight};
 pub use node::{Binary, Leaf, Node, Quantifier, Unary, Variadic};
 pub use table::{Size, Table};
 pub use worth::Worth;
-
-#[cfg(test)]
-mod tests;

@@ -1,0 +1,887 @@
+//! Vectors, and files that are damaged in one place.
+
+use strat_text::*;
+use std::alloc::AllocError;
+use std::test::*;
+
+const S1: &str =
+    "simsat-strategy 1\ngoals 1\ngoal 0 sat\nturns to\nt\no 1\nm 1 1 1 0\nproof 4\npath 0\ndef 1 0\nsum 1 0 1 1 1\nfalse 2\nend\n";
+
+/// A node has a move twice, and the file goes wrong again further on.
+const REPEATED: &str =
+    "simsat-strategy 1\ngoals 1\ngoal 0 sat\nturns oo\no 3\nm 1 0\no 1\nm 1 0\nm 1 1\no 2\nm 1 0 1 0\nm 1 0 1 0\nm 1 0\nproof x\n";
+
+/// Files that are read.
+const WHOLE: &[&str] = &[
+    S1,
+    "simsat-strategy 1\ngoals 1\ngoal 0 unsat\nturns to\nt\no 1\nm 1 -1 1 0\nproof 4\npath 0\ndef 1 1\nsum 1 0 1 1 1\nfalse 2\nend\n",
+    "simsat-strategy 1\ngoals 1\ngoal 0 sat\nturns to\nt\no 1\nm 2 1 1 0\nproof 13\npath 0\npart 0 0\npart 0 1\ndef 1 0\ndef 1 1\ncases 1 2\nsum 1 3 1 5 1\nfalse 6\ncases 2 2\nsum 1 5 1 6 1\nfalse 7\nsum 1 4 1 6 1\nfalse 7\nend\n",
+    "simsat-strategy 1\ngoals 1\ngoal 0 sat\nturns -\nproof 2\npath 0\ncases 0 0\nend\n",
+    "simsat-strategy 1\ngoals 1\ngoal 0 unsat\nturns t\nt\nproof 7\npath 0\npart 0 0\npart 0 1\ncube 1 2\nleast 0 2\nfalse 1\nfalse 0\nend\n",
+    "simsat-strategy 1\ngoals 2\ngoal 0 unknown\ngoal 1 unsat\nturns oo\no 2\nm 1 0\no 2\nm 2 1 1 0\nm 2 1 -1 0\nm 1 4503599627370496\no 1\nm 1 0\nproof 3\nsplit | 2 -1 1 0 -3 1048575\nfalse 4294967295\nfalse 0\nend\n",
+    "simsat-strategy 1\ngoals 0\nend\n",
+];
+
+/// A line of S1, what stands in its place, and the place of the fault (0, 0 for none).
+const DAMAGED: &[(u64, &str, (u64, u64))] = &[
+    // a leading zero
+    (7, "m 1 01 1 0", (7, 3)),
+    // a minus before 0
+    (7, "m 1 -0 1 0", (7, 3)),
+    // a plus
+    (7, "m 1 +1 1 0", (7, 3)),
+    // a coefficient 0
+    (7, "m 1 1 0 0", (7, 4)),
+    // a divisor 0
+    (7, "m 0 1 1 0", (7, 2)),
+    // a negative divisor
+    (7, "m -1 1 1 0", (7, 2)),
+    // not in lowest form
+    (7, "m 2 2 2 0", (0, 0)),
+    // a variable at its position
+    (7, "m 1 1 1 1", (7, 5)),
+    // a variable twice
+    (7, "m 1 1 1 0 1 0", (7, 7)),
+    // a coefficient without its variable
+    (7, "m 1 1 1", (7, 5)),
+    // numbers at the cap
+    (7, "m 4503599627370496 -4503599627370496 1 0", (0, 0)),
+    // a number past the cap
+    (7, "m 1 -4503599627370497 1 0", (7, 3)),
+    // a divisor past the cap
+    (7, "m 4503599627370497 1 1 0", (7, 2)),
+    // the greatest variable
+    (10, "split >= -1 1 5 -3 1048575", (13, 1)),
+    // a variable past 2^20
+    (10, "split >= -1 1 0 -3 1048576", (10, 7)),
+    // variables that do not ascend
+    (10, "split > -1 1 5 -3 5", (10, 7)),
+    // an unknown mark
+    (10, "split = 2", (10, 2)),
+    // a modulus 0
+    (10, "split !| 0 2", (10, 3)),
+    // a second literal
+    (10, "split | 2 1 1 0 >= 1", (10, 7)),
+    // two spaces
+    (11, "sum 1 0 1  1 1", (11, 5)),
+    // a space at the end
+    (11, "sum 1 0 1 1 1 ", (11, 7)),
+    // a space at the start
+    (11, " sum 1 0 1 1 1", (11, 1)),
+    // a tab
+    (11, "sum\t1 0 1 1 1", (11, 1)),
+    // a carriage return
+    (12, "false 2\r", (12, 2)),
+    // an empty line
+    (12, "", (12, 1)),
+    // a byte order mark
+    (1, "\u{feff}simsat-strategy 1", (1, 1)),
+    // another version
+    (1, "simsat-strategy 2", (1, 2)),
+    // the greatest count
+    (2, "goals 4503599627370496", (13, 1)),
+    // a count past the cap
+    (2, "goals 4503599627370497", (2, 2)),
+    // the number of another goal
+    (3, "goal 1 sat", (3, 2)),
+    // an unknown verdict
+    (3, "goal 0 maybe", (3, 3)),
+    // two words of turns
+    (4, "turns t o", (4, 3)),
+    // no turns
+    (4, "turns", (4, 2)),
+    // an unknown turn
+    (4, "turns tx", (4, 2)),
+    // another turn
+    (5, "o 1", (5, 1)),
+    // the greatest count of moves
+    (6, "o 4503599627370496", (8, 1)),
+    // no move
+    (6, "o 0", (6, 2)),
+    // the greatest count of lines
+    (8, "proof 4503599627370496", (13, 1)),
+    // no proof line
+    (8, "proof 0", (8, 2)),
+    // a line too many
+    (8, "proof 3", (12, 1)),
+    // a line missing
+    (8, "proof 5", (13, 1)),
+    // the greatest index
+    (10, "def 4294967295 0", (0, 0)),
+    // an index past it
+    (10, "def 4294967296 0", (10, 2)),
+    // an index past 64 bits
+    (10, "def 18446744073709551616 0", (10, 2)),
+    // a negative index
+    (10, "def 1 -1", (10, 3)),
+    // a proof that closes early
+    (10, "false 0", (11, 1)),
+    // a proof that stays open
+    (12, "path 0", (13, 1)),
+    // no case
+    (12, "cases 2 0", (0, 0)),
+    // very many cases
+    (12, "cases 2 4503599627370496", (13, 1)),
+    // a count past the cap
+    (12, "cases 2 4503599627370497", (12, 3)),
+    // the greatest divisor of a sum
+    (11, "sum 1 0 1 1 40564819207303340847894502572032", (0, 0)),
+    // a negative one
+    (11, "sum 0 0 -1 1 -40564819207303340847894502572032", (0, 0)),
+    // a divisor past 2^105
+    (11, "sum 1 0 1 1 40564819207303340847894502572033", (11, 6)),
+    // a factor past the cap
+    (11, "sum 4503599627370497 0 1 1 1", (11, 2)),
+    // sixty digits
+    (
+        11,
+        "sum 1 0 1 1 999999999999999999999999999999999999999999999999999999999999",
+        (11, 6),
+    ),
+    // no index
+    (10, "cube", (10, 2)),
+    // a word for an index
+    (10, "cube 0 x", (10, 3)),
+    // an unknown rule
+    (10, "learn >= 0", (10, 1)),
+];
+
+/// The same for REPEATED.
+const AGAIN: &[(u64, &str, (u64, u64))] = &[
+    // the second move again
+    (12, "m 1 0 1 0", (12, 5)),
+    // and a word
+    (12, "m 1 0 1 0 x", (12, 6)),
+    // and a number
+    (12, "m 1 0 1 0 1", (12, 7)),
+    // and a line
+    (12, "m 1 0 1 0\nend", (12, 5)),
+    // the same value, otherwise written
+    (12, "m 2 0 2 0", (13, 3)),
+    // a fault in its words
+    (12, "m 1 2 3", (12, 5)),
+    // a move of the node above
+    (9, "m 1 0", (9, 3)),
+];
+
+/// Endings: what follows S1, and the place of the fault.
+const ENDINGS: &[(&str, (u64, u64))] = &[
+    ("\n", (14, 1)),
+    (" ", (14, 1)),
+    ("x", (14, 1)),
+    ("end\n", (14, 1)),
+    ("\x00", (14, 1)),
+    ("\r", (14, 1)),
+];
+
+/// S1 cut after so many bytes.
+const CUT: &[(u64, u64)] = &[
+    (1, 1),
+    (1, 1),
+    (1, 1),
+    (1, 1),
+    (1, 1),
+    (1, 1),
+    (1, 1),
+    (1, 1),
+    (1, 1),
+    (1, 1),
+    (1, 1),
+    (1, 1),
+    (1, 1),
+    (1, 1),
+    (1, 1),
+    (1, 2),
+    (1, 2),
+    (1, 3),
+    (2, 1),
+    (2, 1),
+    (2, 1),
+    (2, 1),
+    (2, 1),
+    (2, 2),
+    (2, 2),
+    (2, 3),
+    (3, 1),
+    (3, 1),
+    (3, 1),
+    (3, 1),
+    (3, 2),
+    (3, 2),
+    (3, 3),
+    (3, 3),
+    (3, 3),
+    (3, 3),
+    (3, 4),
+    (4, 1),
+    (4, 1),
+    (4, 1),
+    (4, 1),
+    (4, 1),
+    (4, 2),
+    (4, 2),
+    (4, 3),
+    (4, 3),
+    (5, 1),
+    (5, 2),
+    (6, 1),
+    (6, 2),
+    (6, 2),
+    (6, 3),
+    (7, 1),
+    (7, 2),
+    (7, 2),
+    (7, 3),
+    (7, 3),
+    (7, 4),
+    (7, 4),
+    (7, 5),
+    (7, 5),
+    (7, 6),
+    (8, 1),
+    (8, 1),
+    (8, 1),
+    (8, 1),
+    (8, 1),
+    (8, 2),
+    (8, 2),
+    (8, 3),
+    (9, 1),
+    (9, 1),
+    (9, 1),
+    (9, 1),
+    (9, 2),
+    (9, 2),
+    (9, 3),
+    (10, 1),
+    (10, 1),
+    (10, 1),
+    (10, 2),
+    (10, 2),
+    (10, 3),
+    (10, 3),
+    (10, 4),
+    (11, 1),
+    (11, 1),
+    (11, 1),
+    (11, 2),
+    (11, 2),
+    (11, 3),
+    (11, 3),
+    (11, 4),
+    (11, 4),
+    (11, 5),
+    (11, 5),
+    (11, 6),
+    (11, 6),
+    (11, 7),
+    (12, 1),
+    (12, 1),
+    (12, 1),
+    (12, 1),
+    (12, 1),
+    (12, 2),
+    (12, 2),
+    (12, 3),
+    (13, 1),
+    (13, 1),
+    (13, 1),
+    (13, 2),
+];
+
+/// S1 with a space for the byte at this place.
+const SPACES: &[(u64, u64)] = &[
+    (1, 1),
+    (1, 1),
+    (1, 1),
+    (1, 1),
+    (1, 1),
+    (1, 1),
+    (1, 1),
+    (1, 1),
+    (1, 1),
+    (1, 1),
+    (1, 1),
+    (1, 1),
+    (1, 1),
+    (1, 1),
+    (1, 1),
+    (0, 0),
+    (1, 2),
+    (1, 3),
+    (2, 1),
+    (2, 1),
+    (2, 1),
+    (2, 1),
+    (2, 1),
+    (0, 0),
+    (2, 2),
+    (2, 3),
+    (3, 1),
+    (3, 1),
+    (3, 1),
+    (3, 1),
+    (0, 0),
+    (3, 2),
+    (0, 0),
+    (3, 3),
+    (3, 3),
+    (3, 3),
+    (3, 4),
+    (4, 1),
+    (4, 1),
+    (4, 1),
+    (4, 1),
+    (4, 1),
+    (0, 0),
+    (4, 2),
+    (4, 3),
+    (4, 3),
+    (5, 1),
+    (5, 2),
+    (6, 1),
+    (0, 0),
+    (6, 2),
+    (6, 3),
+    (7, 1),
+    (0, 0),
+    (7, 2),
+    (0, 0),
+    (7, 3),
+    (0, 0),
+    (7, 4),
+    (0, 0),
+    (7, 5),
+    (7, 6),
+    (8, 1),
+    (8, 1),
+    (8, 1),
+    (8, 1),
+    (8, 1),
+    (0, 0),
+    (8, 2),
+    (8, 3),
+    (9, 1),
+    (9, 1),
+    (9, 1),
+    (9, 1),
+    (0, 0),
+    (9, 2),
+    (9, 3),
+    (10, 1),
+    (10, 1),
+    (10, 1),
+    (0, 0),
+    (10, 2),
+    (0, 0),
+    (10, 3),
+    (10, 4),
+    (11, 1),
+    (11, 1),
+    (11, 1),
+    (0, 0),
+    (11, 2),
+    (0, 0),
+    (11, 3),
+    (0, 0),
+    (11, 4),
+    (0, 0),
+    (11, 5),
+    (0, 0),
+    (11, 6),
+    (11, 7),
+    (12, 1),
+    (12, 1),
+    (12, 1),
+    (12, 1),
+    (12, 1),
+    (0, 0),
+    (12, 2),
+    (12, 3),
+    (13, 1),
+    (13, 1),
+    (13, 1),
+    (13, 2),
+];
+
+/// S1 with the digit 7 for the byte at this place.
+const DIGITS: &[(u64, u64)] = &[
+    (1, 1),
+    (1, 1),
+    (1, 1),
+    (1, 1),
+    (1, 1),
+    (1, 1),
+    (1, 1),
+    (1, 1),
+    (1, 1),
+    (1, 1),
+    (1, 1),
+    (1, 1),
+    (1, 1),
+    (1, 1),
+    (1, 1),
+    (1, 1),
+    (1, 2),
+    (1, 2),
+    (2, 1),
+    (2, 1),
+    (2, 1),
+    (2, 1),
+    (2, 1),
+    (2, 1),
+    (13, 1),
+    (2, 2),
+    (3, 1),
+    (3, 1),
+    (3, 1),
+    (3, 1),
+    (3, 1),
+    (3, 2),
+    (3, 2),
+    (3, 3),
+    (3, 3),
+    (3, 3),
+    (3, 3),
+    (4, 1),
+    (4, 1),
+    (4, 1),
+    (4, 1),
+    (4, 1),
+    (4, 1),
+    (4, 2),
+    (4, 2),
+    (4, 2),
+    (5, 1),
+    (5, 1),
+    (6, 1),
+    (6, 1),
+    (8, 1),
+    (6, 2),
+    (7, 1),
+    (7, 1),
+    (0, 0),
+    (7, 4),
+    (0, 0),
+    (7, 4),
+    (0, 0),
+    (7, 5),
+    (7, 5),
+    (7, 5),
+    (8, 1),
+    (8, 1),
+    (8, 1),
+    (8, 1),
+    (8, 1),
+    (8, 1),
+    (13, 1),
+    (8, 2),
+    (9, 1),
+    (9, 1),
+    (9, 1),
+    (9, 1),
+    (9, 1),
+    (0, 0),
+    (9, 2),
+    (10, 1),
+    (10, 1),
+    (10, 1),
+    (10, 1),
+    (0, 0),
+    (10, 3),
+    (0, 0),
+    (10, 3),
+    (11, 1),
+    (11, 1),
+    (11, 1),
+    (11, 1),
+    (0, 0),
+    (11, 6),
+    (0, 0),
+    (11, 3),
+    (0, 0),
+    (11, 6),
+    (0, 0),
+    (11, 6),
+    (0, 0),
+    (11, 6),
+    (12, 1),
+    (12, 1),
+    (12, 1),
+    (12, 1),
+    (12, 1),
+    (12, 1),
+    (0, 0),
+    (12, 2),
+    (13, 1),
+    (13, 1),
+    (13, 1),
+    (13, 1),
+];
+
+/// S1 with the letter a for the byte at this place.
+const LETTERS: &[(u64, u64)] = &[
+    (1, 1),
+    (1, 1),
+    (1, 1),
+    (1, 1),
+    (0, 0),
+    (1, 1),
+    (1, 1),
+    (1, 1),
+    (1, 1),
+    (1, 1),
+    (0, 0),
+    (1, 1),
+    (1, 1),
+    (1, 1),
+    (1, 1),
+    (1, 1),
+    (1, 2),
+    (1, 2),
+    (2, 1),
+    (2, 1),
+    (0, 0),
+    (2, 1),
+    (2, 1),
+    (2, 1),
+    (2, 2),
+    (2, 2),
+    (3, 1),
+    (3, 1),
+    (0, 0),
+    (3, 1),
+    (3, 1),
+    (3, 2),
+    (3, 2),
+    (3, 3),
+    (0, 0),
+    (3, 3),
+    (3, 3),
+    (4, 1),
+    (4, 1),
+    (4, 1),
+    (4, 1),
+    (4, 1),
+    (4, 1),
+    (4, 2),
+    (4, 2),
+    (4, 2),
+    (5, 1),
+    (5, 1),
+    (6, 1),
+    (6, 1),
+    (6, 2),
+    (6, 2),
+    (7, 1),
+    (7, 1),
+    (7, 2),
+    (7, 2),
+    (7, 3),
+    (7, 3),
+    (7, 4),
+    (7, 4),
+    (7, 5),
+    (7, 5),
+    (8, 1),
+    (8, 1),
+    (8, 1),
+    (8, 1),
+    (8, 1),
+    (8, 1),
+    (8, 2),
+    (8, 2),
+    (9, 1),
+    (0, 0),
+    (9, 1),
+    (9, 1),
+    (9, 1),
+    (9, 2),
+    (9, 2),
+    (10, 1),
+    (10, 1),
+    (10, 1),
+    (10, 1),
+    (10, 2),
+    (10, 2),
+    (10, 3),
+    (10, 3),
+    (11, 1),
+    (11, 1),
+    (11, 1),
+    (11, 1),
+    (11, 2),
+    (11, 2),
+    (11, 3),
+    (11, 3),
+    (11, 4),
+    (11, 4),
+    (11, 5),
+    (11, 5),
+    (11, 6),
+    (11, 6),
+    (12, 1),
+    (0, 0),
+    (12, 1),
+    (12, 1),
+    (12, 1),
+    (12, 1),
+    (12, 2),
+    (12, 2),
+    (13, 1),
+    (13, 1),
+    (13, 1),
+    (13, 1),
+];
+
+/// S1 with a line feed for the byte at this place.
+const LINE_FEEDS: &[(u64, u64)] = &[
+    (1, 1),
+    (1, 1),
+    (1, 1),
+    (1, 1),
+    (1, 1),
+    (1, 1),
+    (1, 1),
+    (1, 1),
+    (1, 1),
+    (1, 1),
+    (1, 1),
+    (1, 1),
+    (1, 1),
+    (1, 1),
+    (1, 1),
+    (1, 2),
+    (1, 2),
+    (0, 0),
+    (2, 1),
+    (2, 1),
+    (2, 1),
+    (2, 1),
+    (2, 1),
+    (2, 2),
+    (2, 2),
+    (0, 0),
+    (3, 1),
+    (3, 1),
+    (3, 1),
+    (3, 1),
+    (3, 2),
+    (3, 2),
+    (3, 3),
+    (3, 3),
+    (3, 3),
+    (3, 3),
+    (0, 0),
+    (4, 1),
+    (4, 1),
+    (4, 1),
+    (4, 1),
+    (4, 1),
+    (4, 2),
+    (4, 2),
+    (5, 1),
+    (0, 0),
+    (5, 1),
+    (0, 0),
+    (6, 1),
+    (6, 2),
+    (6, 2),
+    (0, 0),
+    (7, 1),
+    (7, 2),
+    (7, 2),
+    (7, 3),
+    (7, 3),
+    (8, 1),
+    (7, 4),
+    (7, 5),
+    (7, 5),
+    (0, 0),
+    (8, 1),
+    (8, 1),
+    (8, 1),
+    (8, 1),
+    (8, 1),
+    (8, 2),
+    (8, 2),
+    (0, 0),
+    (9, 1),
+    (9, 1),
+    (9, 1),
+    (9, 1),
+    (9, 2),
+    (9, 2),
+    (0, 0),
+    (10, 1),
+    (10, 1),
+    (10, 1),
+    (10, 2),
+    (10, 2),
+    (10, 3),
+    (10, 3),
+    (0, 0),
+    (11, 1),
+    (11, 1),
+    (11, 1),
+    (11, 2),
+    (11, 2),
+    (11, 3),
+    (11, 3),
+    (11, 4),
+    (11, 4),
+    (11, 5),
+    (11, 5),
+    (11, 6),
+    (11, 6),
+    (0, 0),
+    (12, 1),
+    (12, 1),
+    (12, 1),
+    (12, 1),
+    (12, 1),
+    (12, 2),
+    (12, 2),
+    (0, 0),
+    (13, 1),
+    (13, 1),
+    (13, 1),
+    (0, 0),
+];
+
+/// The place of the fault; `(0, 0)` where the file is read, and written again as it was.
+fn place(rt: &HostRuntime, bytes: &[u8]) -> (u64, u64) {
+    match read_file(rt.alloc(), bytes) {
+        Ok(sections) => match write_file(rt.alloc(), &sections) {
+            Ok(again) => {
+                if again.as_slice() == bytes {
+                    (0, 0)
+                } else {
+                    (0, 1)
+                }
+            }
+            Err(_) => (0, 2),
+        },
+        Err(FileFault::Bad { line, word }) => (line, word),
+        Err(FileFault::Memory) => (0, 3),
+    }
+}
+
+fn with_line(rt: &HostRuntime, file: &str, number: u64, text: &str) -> Result<Vec<u8>, AllocError> {
+    let mut out = Vec::new(rt.alloc());
+    let mut line = 1u64;
+    for b in file.as_bytes() {
+        if line != number {
+            out.push(*b)?;
+        } else if *b == b'\n' {
+            out.extend_from_slice(text.as_bytes())?;
+            out.push(b'\n')?;
+        }
+        if *b == b'\n' {
+            line = line.wrapping_add(1);
+        }
+    }
+    Ok(out)
+}
+
+fn with_byte(rt: &HostRuntime, at: usize, byte: u8) -> Result<Vec<u8>, AllocError> {
+    let mut out = Vec::new(rt.alloc());
+    for (i, b) in S1.as_bytes().iter().enumerate() {
+        out.push(if i == at { byte } else { *b })?;
+    }
+    Ok(out)
+}
+
+#[test]
+fn reads_and_writes_the_vectors(rt: HostRuntime) {
+    for file in WHOLE {
+        assert_eq!(rt; place(&rt, file.as_bytes()), (0, 0), "{file}");
+    }
+}
+
+#[test]
+fn names_the_first_fault(rt: HostRuntime) -> Result<(), Fail> {
+    for (line, text, want) in DAMAGED {
+        let bytes = with_line(&rt, S1, *line, text).map_err(|_| "memory")?;
+        assert_eq!(rt; place(&rt, bytes.as_slice()), *want, "line {line}: {text}");
+    }
+    for (line, text, want) in AGAIN {
+        let bytes = with_line(&rt, REPEATED, *line, text).map_err(|_| "memory")?;
+        assert_eq!(rt; place(&rt, bytes.as_slice()), *want, "line {line}: {text}");
+    }
+    Ok(())
+}
+
+#[test]
+fn refuses_what_follows_the_end(rt: HostRuntime) -> Result<(), Fail> {
+    for (ending, want) in ENDINGS {
+        let mut bytes = Vec::from_slice(rt.alloc(), S1.as_bytes()).map_err(|_| "memory")?;
+        bytes
+            .extend_from_slice(ending.as_bytes())
+            .map_err(|_| "memory")?;
+        assert_eq!(rt; place(&rt, bytes.as_slice()), *want, "{ending}");
+    }
+    Ok(())
+}
+
+#[test]
+fn names_the_fault_of_a_cut_file(rt: HostRuntime) {
+    for (len, want) in CUT.iter().enumerate() {
+        match S1.as_bytes().get(..len) {
+            Some(bytes) => assert_eq!(rt; place(&rt, bytes), *want, "at {len}"),
+            None => assert!(rt; false),
+        }
+    }
+}
+
+#[test]
+fn names_the_fault_of_a_replaced_byte(rt: HostRuntime) -> Result<(), Fail> {
+    for (byte, places) in [
+        (b' ', SPACES),
+        (b'7', DIGITS),
+        (b'a', LETTERS),
+        (b'\n', LINE_FEEDS),
+    ] {
+        for (at, want) in places.iter().enumerate() {
+            let bytes = with_byte(&rt, at, byte).map_err(|_| "memory")?;
+            assert_eq!(rt; place(&rt, bytes.as_slice()), *want, "{byte} at {at}");
+        }
+    }
+    Ok(())
+}
+
+/// A file whose tree is as deep as the turns are long.
+fn deep(rt: &HostRuntime, turns: usize) -> Result<Vec<u8>, AllocError> {
+    let mut out = Vec::from_slice(
+        rt.alloc(),
+        b"simsat-strategy 1\ngoals 1\ngoal 0 sat\nturns ",
+    )?;
+    for _ in 0..turns {
+        out.push(b'o')?;
+    }
+    out.push(b'\n')?;
+    for _ in 0..turns {
+        out.extend_from_slice(b"o 1\nm 1 0\n")?;
+    }
+    out.extend_from_slice(b"proof 1\nfalse 0\nend\n")?;
+    Ok(out)
+}
+
+#[test]
+fn reads_the_longest_turns(rt: HostRuntime) -> Result<(), Fail> {
+    let most = deep(&rt, 1024).map_err(|_| "memory")?;
+    assert_eq!(rt; place(&rt, most.as_slice()), (0, 0));
+    let more = deep(&rt, 1025).map_err(|_| "memory")?;
+    assert_eq!(rt; place(&rt, more.as_slice()), (4, 2));
+    Ok(())
+}
+
+#[test]
+fn collects_sections(rt: HostRuntime) -> Result<(), Fail> {
+    let mut sections = Sections::new(rt.alloc());
+    sections.push(Section::Unknown).map_err(|_| "memory")?;
+    assert_eq!(rt; sections.as_slice().len(), 1);
+    one_value();
+    one_spelling();
+    Ok(())
+}

@@ -1,0 +1,15 @@
+//! Tests of the crates that read a script, over their public calls.
+#![tactic(auto)]
+
+#[cfg(test)]
+mod expressions;
+#[cfg(test)]
+mod operators;
+#[cfg(test)]
+mod scripts;
+#[cfg(test)]
+mod shared_terms;
+#[cfg(test)]
+mod terms;
+#[cfg(test)]
+mod tokens;
