@@ -3,9 +3,8 @@ ghost use Rattle.lin_term.specs.declared.Sort.TheVariants.{Int as whole};
 ghost use Rattle.dom_core.specs.Cube.{IsPrimitiveCube};
 ghost use Rattle.dom_int.specs.Example.{even_and_odd};
 
-use dom_int::Elimination;
-use dom_int::Int;
 use dom_core::{Cube, Domain};
+use dom_int::{Elimination, Int};
 use lin_term::{Lit, Memory, Row};
 use smallvec::SmallVec;
 use sqlite_items::Items;

@@ -14,6 +14,8 @@ mod problems;
 #[cfg(test)]
 mod proof_lines;
 #[cfg(test)]
+mod rat_eliminations;
+#[cfg(test)]
 mod sections;
 #[cfg(test)]
 mod strategy_files;

@@ -5,15 +5,10 @@ ghost use Rattle.lin_term.specs.Linear.{Below};
 ghost use Rattle.lin_term.specs.Primable.{IsPrimable};
 ghost use Rattle.lin_term.specs.Sum.{IsInequality};
 
-use lin_term::closed_truth;
-use lin_term::{CombineFault, combine};
-use lin_term::{Defined, definition_literals};
-use lin_term::{Memory, Short, Wide};
-use lin_term::Lit;
-use lin_term::Move;
-use lin_term::{negate, primitive};
-use lin_term::substitute;
-use lin_term::{CAP, Row, Sort};
+use lin_term::{
+    CAP, CombineFault, Defined, Lit, Memory, Move, Row, Short, Sort, Wide, closed_truth, combine,
+    definition_literals, negate, primitive, substitute,
+};
 use smallvec::SmallVec;
 use std::alloc::Global;
 

@@ -1,7 +1,7 @@
-use norm_form::*;
 use lin_form::FormFault;
 use lin_term::{Lit, Sort};
 use lin_truth::{Term, VarSort};
+use norm_form::*;
 use sqlite_items::Boxed;
 use std::alloc::Global;
 use std::test::Fail;

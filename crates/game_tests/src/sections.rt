@@ -5,8 +5,6 @@ ghost use Rattle.dom_core.specs.Game.{lit as leaf};
 ghost use Rattle.dom_core.specs.View.{matrix_of};
 ghost use Rattle.strat_check.specs.Example.{second_above_first};
 
-use strat_check::Checked;
-use strat_check::check_goal;
 use cube_rules::Rule;
 use dom_core::{Matrix, Problem, Quant, Side};
 use dom_rat::Rat;
@@ -15,6 +13,7 @@ use smallvec::SmallVec;
 use sqlite_items::Items;
 use std::alloc::{AllocError, Global};
 use std::test::*;
+use strat_check::{Checked, check_goal};
 use strat_text::read_file;
 
 /// v1 > v0 for every v0 with a v1 of one's choice: the move v0 + 1 proves it.

@@ -1,8 +1,8 @@
 //! Vectors, and files that are damaged in one place.
 
-use strat_text::*;
 use std::alloc::AllocError;
 use std::test::*;
+use strat_text::*;
 
 const S1: &str =
     "simsat-strategy 1\ngoals 1\ngoal 0 sat\nturns to\nt\no 1\nm 1 1 1 0\nproof 4\npath 0\ndef 1 0\nsum 1 0 1 1 1\nfalse 2\nend\n";

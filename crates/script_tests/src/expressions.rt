@@ -1,7 +1,7 @@
 ghost use Rattle.std.specs.Prelude.{◌<◌};
 
-use smt_tree::*;
 use smt_lex::TokenKind;
+use smt_tree::*;
 use ss_names::{FaultKind, ScriptFault};
 use std::alloc::Global;
 use std::test::Fail;

@@ -1,6 +1,6 @@
-use smt_term::*;
 use lin_term::Sort;
 use smt_lex::{Token, TokenKind};
+use smt_term::*;
 use std::alloc::{AllocError, Global};
 
 // Each line is an operator, and the least and the greatest number of its arguments in a logic of reals and in one of

@@ -1,6 +1,6 @@
-use smt_goal::*;
 use lin_term::Sort;
 use lin_truth::{Goal, Term};
+use smt_goal::*;
 use ss_names::ScriptFault;
 use std::alloc::Global;
 use std::test::Fail;

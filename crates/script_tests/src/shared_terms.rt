@@ -1,8 +1,8 @@
-use term_table::*;
 use lin_truth::{Term, VarSort};
 use sqlite_items::Items;
 use std::alloc::Global;
 use std::test::Fail;
+use term_table::*;
 
 // The sum of the last term with itself, sixty times, each time by a definition: no more than three entries each.
 #[test]

@@ -1,9 +1,9 @@
 ghost use Rattle.std.specs.Prelude.{OnOk};
 ghost use Rattle.smt_term.specs.Reads.{Fits};
 
-use smt_term::*;
 use lin_term::Sort;
 use lin_truth::{Term, VarSort};
+use smt_term::*;
 use smt_tree::{Expr, expressions_of};
 use ss_names::ScriptFault;
 use std::alloc::{AllocError, Global};
