@@ -1,4 +1,6 @@
 use lin_form::*;
+use lin_truth::{Term, VarSort};
+use sqlite_items::{Boxed, Items};
 use std::alloc::Global;
 use std::test::Fail;
 
@@ -30,6 +32,27 @@ fn is_rounded_down(alloc: Global) -> Result<bool, FormFault> {
 #[test]
 fn division(rt: HostRuntime) -> Result<(), Fail> {
     let holds = is_rounded_down(rt.alloc())?;
+    assert!(rt; holds);
+    Ok(())
+}
+
+/// Whether 3*y - x over two bound variables is -x + 3*y at their levels.
+fn is_direct_difference(alloc: Global) -> Result<bool, FormFault> {
+    let three = Term::Number { num: 3, den: 1 };
+    let mut factors = Items::new(alloc);
+    factors.push(three)?;
+    factors.push(Term::Var(1))?;
+    let product = Boxed::new(alloc, Term::Times(factors))?;
+    let x = Boxed::new(alloc, Term::Var(0))?;
+    let sort = VarSort::Number;
+    let bounds = [Bound { sort, level: 4 }, Bound { sort, level: 7 }];
+    let form = direct_form(alloc, bounds.as_slice(), &Term::Minus(product, x))?;
+    Ok(form.row().coefs() == [(4, -1), (7, 3)].as_slice() && form.den() == 1)
+}
+
+#[test]
+fn terms_without_a_choice(rt: HostRuntime) -> Result<(), Fail> {
+    let holds = is_direct_difference(rt.alloc())?;
     assert!(rt; holds);
     Ok(())
 }
