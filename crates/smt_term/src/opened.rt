@@ -1,6 +1,7 @@
 //! Names that a `let` or a binder adds.
 
-ghost use Rattle.std.specs.Prelude.{[], length, OnOk};
+ghost use Rattle.std.specs.Prelude.{◌≡◌, [], length, OnOk, IfErr};
+ghost use Rattle.ss_names.specs.declared.ScriptFault.TheVariants.{Memory};
 ghost use Rattle.term_table.specs.Meaning.{meanings};
 ghost use Rattle.smt_term.specs.Scope.{with_bound, with_bindings};
 ghost use Rattle.smt_term.specs.Reads.{scope_seen, Fits};
@@ -15,11 +16,12 @@ use symbol_table::Known;
 use term_table::Node;
 
 impl<'a> Reader<'a> {
-    /// Adds the names of a `let`.
+    /// Adds the names of a `let`; it refuses only for memory.
     pub fn add_bound(&mut self, bound: &[Bound<'a>]) -> Result<(), ScriptFault>
         requires fits { Fits self.old }
         requires bound { BoundIn (length self.old.table) bound.now }
-        ensures { OnOk result (Opens (with_bound (scope_seen self.old) (bound_at (meanings self.old.table) [] bound.now)) self.old self.new) }
+        ensures opens { OnOk result (Opens (with_bound (scope_seen self.old) (bound_at (meanings self.old.table) [] bound.now)) self.old self.new) }
+        ensures memory { IfErr result (λ e. e ≡ Memory) }
     {
         for b in bound {
             let known = Known {
@@ -35,10 +37,11 @@ impl<'a> Reader<'a> {
         Ok(())
     }
 
-    /// Adds the variables of a binder.
+    /// Adds the variables of a binder; it refuses only for memory.
     pub fn add_variables(&mut self, variables: &[Binding<'a>]) -> Result<(), ScriptFault>
         requires { Fits self.old }
-        ensures { OnOk result (Opens (with_bindings (scope_seen self.old) (newest_first [] variables.now)) self.old self.new) }
+        ensures opens { OnOk result (Opens (with_bindings (scope_seen self.old) (newest_first [] variables.now)) self.old self.new) }
+        ensures memory { IfErr result (λ e. e ≡ Memory) }
     {
         let mut place = self.around;
         for v in variables {

@@ -89,7 +89,7 @@ pub struct Operator {
 // application, its shape, and which arguments have to be constant terms.
 macro_rules! line {
     ($word:literal: $within:ident, $least:expr, $most:expr, $takes:ident, $gives:ident, $shape:expr, $linear:ident) => {
-        Operator {
+        Some(Operator {
             within: Within::$within,
             least: $least,
             most: $most,
@@ -97,7 +97,7 @@ macro_rules! line {
             gives: Gives::$gives,
             shape: $shape,
             linear: Linear::$linear,
-        }
+        })
     };
 }
 
@@ -105,32 +105,30 @@ macro_rules! line {
 fn line_of(row: usize) -> Option<Operator>
     ensures { result ≡ slice_get spec.lines row }
 {
-    let lines = [
-        line!("true": All, 1, Some(0), Formulas, Formula, Shape::Truth(true), Free),
-        line!("false": All, 1, Some(0), Formulas, Formula, Shape::Truth(false), Free),
-        line!("not": All, 1, Some(1), Formulas, Formula, Shape::One(Unary::Not), Free),
-        line!("and": All, 1, None, Formulas, Formula, Shape::Several(Variadic::And), Free),
-        line!("or": All, 1, None, Formulas, Formula, Shape::Several(Variadic::Or), Free),
-        line!("xor": All, 2, None, Formulas, Formula, Shape::Left(Binary::Xor), Free),
-        line!("=>": All, 2, None, Formulas, Formula, Shape::Right(Binary::Implies), Free),
-        line!("=": All, 2, None, Alike, Formula, Shape::Chain(Binary::Equal), Free),
-        line!("distinct": All, 2, None, Alike, Formula, Shape::Pairwise, Free),
-        line!("ite": All, 3, Some(3), Choice, Last, Shape::Choice, Free),
-        line!("<": All, 2, None, Numbers, Formula, Shape::Chain(Binary::Less), Free),
-        line!("<=": All, 2, None, Numbers, Formula, Shape::Chain(Binary::AtMost), Free),
-        line!(">": All, 2, None, Numbers, Formula, Shape::Chain(Binary::Greater), Free),
-        line!(">=": All, 2, None, Numbers, Formula, Shape::Chain(Binary::AtLeast), Free),
-        line!("+": All, 2, None, Numbers, Number, Shape::Several(Variadic::Plus), Free),
-        line!("-": All, 1, None, Numbers, Number, Shape::Difference, Free),
-        line!("*": All, 2, None, Numbers, Number, Shape::Several(Variadic::Times), Factors),
-        line!("/": Reals, 2, None, Numbers, Number, Shape::Left(Binary::Quotient), Divisors),
-        line!("div": Integers, 2, None, Numbers, Number, Shape::Left(Binary::Div), Divisors),
-        line!("mod": Integers, 2, Some(2), Numbers, Number, Shape::Left(Binary::Mod), Divisors),
-        line!("abs": Integers, 1, Some(1), Numbers, Number, Shape::One(Unary::Abs), Free),
-    ];
-    match lines.get(row) {
-        None => None,
-        Some(line) => Some(*line),
+    match row {
+        0 => line!("true": All, 1, Some(0), Formulas, Formula, Shape::Truth(true), Free),
+        1 => line!("false": All, 1, Some(0), Formulas, Formula, Shape::Truth(false), Free),
+        2 => line!("not": All, 1, Some(1), Formulas, Formula, Shape::One(Unary::Not), Free),
+        3 => line!("and": All, 1, None, Formulas, Formula, Shape::Several(Variadic::And), Free),
+        4 => line!("or": All, 1, None, Formulas, Formula, Shape::Several(Variadic::Or), Free),
+        5 => line!("xor": All, 2, None, Formulas, Formula, Shape::Left(Binary::Xor), Free),
+        6 => line!("=>": All, 2, None, Formulas, Formula, Shape::Right(Binary::Implies), Free),
+        7 => line!("=": All, 2, None, Alike, Formula, Shape::Chain(Binary::Equal), Free),
+        8 => line!("distinct": All, 2, None, Alike, Formula, Shape::Pairwise, Free),
+        9 => line!("ite": All, 3, Some(3), Choice, Last, Shape::Choice, Free),
+        10 => line!("<": All, 2, None, Numbers, Formula, Shape::Chain(Binary::Less), Free),
+        11 => line!("<=": All, 2, None, Numbers, Formula, Shape::Chain(Binary::AtMost), Free),
+        12 => line!(">": All, 2, None, Numbers, Formula, Shape::Chain(Binary::Greater), Free),
+        13 => line!(">=": All, 2, None, Numbers, Formula, Shape::Chain(Binary::AtLeast), Free),
+        14 => line!("+": All, 2, None, Numbers, Number, Shape::Several(Variadic::Plus), Free),
+        15 => line!("-": All, 1, None, Numbers, Number, Shape::Difference, Free),
+        16 => line!("*": All, 2, None, Numbers, Number, Shape::Several(Variadic::Times), Factors),
+        17 => line!("/": Reals, 2, None, Numbers, Number, Shape::Left(Binary::Quotient), Divisors),
+        18 => line!("div": Integers, 2, None, Numbers, Number, Shape::Left(Binary::Div), Divisors),
+        19 =>
+            line!("mod": Integers, 2, Some(2), Numbers, Number, Shape::Left(Binary::Mod), Divisors),
+        20 => line!("abs": Integers, 1, Some(1), Numbers, Number, Shape::One(Unary::Abs), Free),
+        _ => None,
     }
 }
 

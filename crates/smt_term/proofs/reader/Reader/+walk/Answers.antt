@@ -339,7 +339,7 @@ let_term-add_bound-requires-clause-fits t c = fits-keeps c.args.self.now c.bound
 pub let_term-one-requires : goal.let_term-one-requires
 let_term-one-requires t c =
     let z = c.in-Ok.ensures.1 in
-    (omega arith, c.in-Ok-add_bound.ensures.fits)
+    (omega arith, c.in-Ok-add_bound.ensures.opens.fits)
 
 pub let_term-returns-in-Err-one-clause-gives : goal.let_term-returns-in-Err-one-clause-gives
 let_term-returns-in-Err-one-clause-gives t c =
@@ -350,7 +350,7 @@ let_term-returns-in-Err-one-clause-gives t c =
     let read = one_term (scope_seen inner) p (all_seen c.in-Ok.found.1.now) in
     let eq : read ≡ let_term (scope_seen old) p (all_seen c.args.args.now) =
     let-opened old mid inner p c.args.args.now c.in-Ok.found.0.now c.in-Ok.found.1.now c.as_slice.result.now c.in-Ok-read.bound c.requires c.in-Ok.ensures.0 c.in-Ok-read.ensures.gives
-    c.in-Ok-read.ensures.keeps c.as_slice.ensures.value c.in-Ok-add_bound.ensures in
+    c.in-Ok-read.ensures.keeps c.as_slice.ensures.value c.in-Ok-add_bound.ensures.opens in
     one-fails old.table c.one.new.self.table (let_term (scope_seen old) p (all_seen c.args.args.now)) c.in-Err-one.fault
     (fails-as (let_term (scope_seen old) p (all_seen c.args.args.now)) read c.in-Err-one.fault (sym eq) (fails-one inner.table c.one.new.self.table read c.in-Err-one.fault c.in-Err-one.ensures.gives))
 
@@ -363,10 +363,10 @@ let_term-returns-clause-gives t c =
     let given = c.in-Ok-one.ensures.gives in
     let eq : one_term (scope_seen inner) p (all_seen c.in-Ok.found.1.now) ≡ let_term (scope_seen old) p (all_seen c.args.args.now) =
     let-opened old mid inner p c.args.args.now c.in-Ok.found.0.now c.in-Ok.found.1.now c.as_slice.result.now c.in-Ok-read.bound c.requires c.in-Ok.ensures.0 c.in-Ok-read.ensures.gives
-    c.in-Ok-read.ensures.keeps c.as_slice.ensures.value c.in-Ok-add_bound.ensures in (
+    c.in-Ok-read.ensures.keeps c.as_slice.ensures.value c.in-Ok-add_bound.ensures.opens in (
       sym eq ∙ given.0,
       given.1,
-      Extends-then old.table mid.table c.one.new.self.table c.in-Ok-read.ensures.gives.2 (Extends-then mid.table inner.table c.one.new.self.table c.in-Ok-add_bound.ensures.grows given.2),
+      Extends-then old.table mid.table c.one.new.self.table c.in-Ok-read.ensures.gives.2 (Extends-then mid.table inner.table c.one.new.self.table c.in-Ok-add_bound.ensures.opens.grows given.2),
     )
 
 -- ---- `bound`
@@ -432,17 +432,17 @@ binder-returns-in-Err-sorted-clause-gives t c =
 pub binder-one-requires : goal.binder-one-requires
 binder-one-requires t c =
     let z = c.in-Ok.ensures.1 in
-    (omega arith, c.in-Ok-add_variables.ensures.fits)
+    (omega arith, c.in-Ok-add_variables.ensures.opens.fits)
 
 pub binder-returns-in-Err-one-clause-gives : goal.binder-returns-in-Err-one-clause-gives
 binder-returns-in-Err-one-clause-gives t c =
     binder-no_body c.args.self.now c.add_variables.new.self (place c.args.line c.args.column) c.args.quantifier c.args.args.now c.in-Ok.found.0.now c.in-Ok.found.1.now c.as_slice.result.now
-    c.in-Ok-sorted.variables c.one.new.self.table c.one.new.self.table c.in-Err-one.fault c.in-Ok.ensures.0 c.in-Ok-sorted.ensures c.as_slice.ensures.value c.in-Ok-add_variables.ensures
+    c.in-Ok-sorted.variables c.one.new.self.table c.one.new.self.table c.in-Err-one.fault c.in-Ok.ensures.0 c.in-Ok-sorted.ensures c.as_slice.ensures.value c.in-Ok-add_variables.ensures.opens
     c.in-Err-one.ensures.gives
 
 pub binder-returns-clause-gives : goal.binder-returns-clause-gives
 binder-returns-clause-gives t c =
     binder-made c.args.self.now c.add_variables.new.self (place c.args.line c.args.column) (place c.first_place-at.result.0 c.first_place-at.result.1) c.args.quantifier c.args.args.now
     c.in-Ok.found.0.now c.in-Ok.found.1.now c.as_slice.result.now c.as_slice-list.result.now c.in-Ok-sorted.variables c.one.new.self.table c.quantified.new.table c.in-Ok-one.seen c.quantified.result
-    c.in-Ok.ensures.0 c.in-Ok-sorted.ensures c.as_slice.ensures.value c.in-Ok-add_variables.ensures c.in-Ok-one.ensures.gives c.as_slice-list.ensures.value c.first_place-at.ensures
+    c.in-Ok.ensures.0 c.in-Ok-sorted.ensures c.as_slice.ensures.value c.in-Ok-add_variables.ensures.opens c.in-Ok-one.ensures.gives c.as_slice-list.ensures.value c.first_place-at.ensures
     c.quantified.ensures
