@@ -1,7 +1,8 @@
 -- A number that is read is the one that was written.
-use Rattle.std.proofs.Common.{◌≡◌, ◌≢◌, ℕ, ℤ, pos, negsuc, neg_ℤ, nat_abs, zero, suc, ◌+◌, ◌*◌, ◌/◌, ◌%◌, ◌^◌, ◌<◌, ◌≤◌, Bool, true, false, cond, not, ◌&&◌, ◌||◌, eqb, ltb, leb, List, [], ◌∷◌, ◌++◌, length, get_or, Option, Some, None, refl, sym, ap, subst, ◌∙◌, append_assoc, arith}
+use Rattle.std.proofs.Common.{◌≡◌, ◌≢◌, ℕ, ℤ, pos, negsuc, neg_ℤ, nat_abs, zero, suc, ◌+◌, ◌*◌, ◌-◌, ◌/◌, ◌%◌, ◌^◌, ◌<◌, ◌≤◌, Bool, true, false, cond, not, ◌&&◌, ◌||◌, eqb, ltb, leb, List, [], ◌∷◌, ◌++◌, take, length, get_or, Option, Some, None, refl, sym, ap, ap₂, subst, ◌∙◌, append_assoc, arith}
 use Rattle.std.proofs.lemmas.Bool.{ltb-false, ltb-true, le-ltb, lt-ltb, leb-false, lt-leb, eqb-true, eqb-false, ne_eqb}
-use Rattle.std.proofs.lemmas.List.{append-nil}
+use Rattle.std.proofs.lemmas.List.{append-nil, length-take-le}
+use Rattle.std.proofs.lemmas.Int.Digits.{digits_value_more}
 use Rattle.std.specs.Prelude.{slice_index}
 use Rattle.std.specs.Option.{option_and_then, option_map}
 use Rattle.std.specs.Int.{IsInRange}
@@ -13,7 +14,7 @@ use Rattle.std.proofs.lemmas.Str.{digit_value_digit}
 use Rattle.std.proofs.lemmas.Str.Parse.{digit_from_value, IsDigitsTest, IsNumeralModel, numerals_by_value, digits_value_short, digit_at}
 use Rattle.std.proofs.lemmas.Fmt.{decimal_step_wide, decimal_digit, decimal_is_IsNumeral_wide, length-decimal-le_wide, decimal_by_steps_wide}
 use Rattle.lin_term.specs.Form.{cap}
-use Rattle.strat_words.specs.Number.{is_plain, magnitude_of, within, natural_of, signed_of, not_zero, coef_of}
+use Rattle.strat_words.specs.Number.{is_plain, value_of_digits, magnitude_of, within, natural_of, signed_of, not_zero, coef_of}
 
 -- ---- digits
 
@@ -62,6 +63,96 @@ pub digit_here : (ds : List ℕ) (i : ℕ) → list_all is_ascii_digit ds ≡ tr
 digit_here ds i h lt =
     let r : IsInRange 48 57 (get_or ds i 0) = digit_at ds i (own.to ds h) lt in
     (omega (arith, r), digit_value_digit (get_or ds i 0) r)
+
+-- ---- a short word, digit by digit
+
+-- so far all are digits, and this is their value
+pub record Valued (ds : List ℕ) (i n : ℕ) : Type 0 where
+  pub digits : list_all is_ascii_digit (take i ds) ≡ true
+  pub value : n ≡ digits_value 10 (take i ds)
+
+pub valued_first : (ds : List ℕ) (n : ℕ) → n ≡ 0 → Valued ds 0 n
+valued_first [] n e = record { digits = refl; value = e }
+valued_first (c ∷ cs) n e = record { digits = refl; value = e }
+
+one_digit : (c : ℕ) → is_ascii_digit c ≡ true → (48 ≤ c) × (c < 58) × (digit_value c + 48 ≡ c)
+one_digit c h =
+    let r : IsInRange 48 57 c = digit_at (c ∷ []) 0 (own.to (c ∷ []) (ap (λ (b : Bool). b && true) h)) (omega arith) in
+    (omega (arith, r), omega (arith, r), digit_value_digit c r)
+
+digits_more : (ds : List ℕ) (i : ℕ) → i < length ds → list_all is_ascii_digit (take i ds) ≡ true → is_ascii_digit (get_or ds i 0) ≡ true → list_all is_ascii_digit (take (suc i) ds) ≡ true
+digits_more [] i lt a h = absurd (omega arith)
+digits_more (c ∷ cs) zero lt a h = ap₂ (λ (a b : Bool). a && b) h (none_taken cs)
+  where
+    none_taken : (xs : List ℕ) → list_all is_ascii_digit (take 0 xs) ≡ true
+    none_taken [] = refl
+    none_taken (x ∷ xs) = refl
+digits_more (c ∷ cs) (suc i) lt a h =
+    let r = both_true (is_ascii_digit c) (list_all is_ascii_digit (take i cs)) a in
+    ap₂ (λ (a b : Bool). a && b) r.0 (digits_more cs i (omega arith) r.1 h)
+  where
+    both_true : (a b : Bool) → (a && b) ≡ true → (a ≡ true) × (b ≡ true)
+    both_true true b e = (refl, e)
+    both_true false b e = absurd cc
+
+short_below : (ds : List ℕ) (i n : ℕ) → length ds < 19 → i < length ds → Valued ds i n → n < 10 ^ 18
+short_below ds i n short lt v =
+    let h = digits_value_short own (take i ds) 18 v.digits (let l = length-take-le i ds (omega arith) in omega arith) in
+    omega (arith, v.value, h)
+
+pub short_room : (ds : List ℕ) (i n c : ℕ) → length ds < 19 → i < length ds → Valued ds i n → c ≡ get_or ds i 0 → is_ascii_digit c ≡ true → (n * 10 < 2 ^ 64) × (48 ≤ c) × (n * 10 + (c - 48) < 2 ^ 64)
+short_room ds i n c short lt v e h =
+    let d = one_digit c h in
+    let b = short_below ds i n short lt v in
+    (omega arith, d.0, omega (arith, d.1))
+
+pub valued_more : (ds : List ℕ) (i n m c : ℕ) → i < length ds → Valued ds i n → c ≡ get_or ds i 0 → is_ascii_digit c ≡ true → m ≡ n * 10 + (c - 48) → Valued ds (i + 1) m
+valued_more ds i n m c lt v e h f =
+    let k : is_ascii_digit (get_or ds i 0) ≡ true = ap is_ascii_digit (sym e) ∙ h in
+    let d = one_digit (get_or ds i 0) k in
+    let p : i + 1 ≡ suc i = omega arith in
+    record {
+      digits = subst (λ (j : ℕ). list_all is_ascii_digit (take j ds) ≡ true) (sym p) (digits_more ds i lt v.digits k);
+      value = let t = digits_value_more 10 ds i lt in omega (arith, t, d.2, v.value, e, f);
+    }
+
+no_digit : (ds : List ℕ) (i : ℕ) → i < length ds → is_ascii_digit (get_or ds i 0) ≡ false → list_all is_ascii_digit ds ≡ false
+no_digit [] i lt h = absurd (omega arith)
+no_digit (c ∷ cs) zero lt h = ap (λ (b : Bool). b && list_all is_ascii_digit cs) h
+no_digit (c ∷ cs) (suc i) lt h = ap (λ (b : Bool). is_ascii_digit c && b) (no_digit cs i (omega arith) h) ∙ none (is_ascii_digit c)
+  where
+    none : (a : Bool) → (a && false) ≡ false
+    none true = refl
+    none false = refl
+
+pub value_none : (ds : List ℕ) (i c : ℕ) → i < length ds → c ≡ get_or ds i 0 → is_ascii_digit c ≡ false → None ≡ value_of_digits ds
+value_none ds i c lt e h = sym (ap (λ (b : Bool). cond b (Some (digits_value 10 ds)) None) (no_digit ds i lt (ap is_ascii_digit (sym e) ∙ h)))
+
+taken_whole : (ds : List ℕ) (i : ℕ) → length ds ≤ i → take i ds ≡ ds
+taken_whole [] zero h = refl
+taken_whole [] (suc i) h = refl
+taken_whole (c ∷ cs) zero h = absurd (omega arith)
+taken_whole (c ∷ cs) (suc i) h = ap (λ (xs : List ℕ). c ∷ xs) (taken_whole cs i (omega arith))
+
+pub value_some : (ds : List ℕ) (i n : ℕ) → length ds ≤ i → Valued ds i n → Some n ≡ value_of_digits ds
+value_some ds i n h v =
+    let t = taken_whole ds i h in
+    ap Some (v.value ∙ ap (digits_value 10) t)
+    ∙ sym (ap (λ (b : Bool). cond b (Some (digits_value 10 ds)) None) (ap (list_all is_ascii_digit) (sym t) ∙ v.digits))
+
+-- which of the tests comes first does not matter
+magnitude_by : (a b c d : Bool) (x : ℕ) → d ≡ true → cond (b && c) (cond a (Some x) None) None ≡ cond (a && b && c && d) (Some x) None
+magnitude_by a b c false x e = absurd cc
+magnitude_by true true true true x e = refl
+magnitude_by true true false true x e = refl
+magnitude_by true false c true x e = refl
+magnitude_by false true true true x e = refl
+magnitude_by false true false true x e = refl
+magnitude_by false false c true x e = refl
+
+pub magnitude_short : (ds : List ℕ) → length ds < 19 → cond (not (eqb (length ds) 0) && (eqb (length ds) 1 || not (eqb (slice_index ds 0) 48))) (value_of_digits ds) None ≡ magnitude_of ds
+magnitude_short ds h =
+    magnitude_by (list_all is_ascii_digit ds) (not (eqb (length ds) 0)) (eqb (length ds) 1 || not (eqb (slice_index ds 0) 48)) (ltb (length ds) 33) (digits_value 10 ds) (lt-ltb (length ds) 33 (omega arith))
 
 -- ---- a word and its number
 

@@ -14,6 +14,10 @@ U32 = 4294967296
 abbrev pub is_plain : List ℕ → Bool
 is_plain ds = list_all is_ascii_digit ds && not (length ds == 0) && (length ds == 1 || not (slice_index ds 0 == 48)) && nat_lt (length ds) 33
 
+-- the value of digits, with or without zeros in front
+abbrev pub value_of_digits : List ℕ → Option ℕ
+value_of_digits ds = if list_all is_ascii_digit ds then Some (digits_value 10 ds) else None
+
 abbrev pub magnitude_of : List ℕ → Option ℕ
 magnitude_of ds = if is_plain ds then Some (digits_value 10 ds) else None
 

@@ -1,6 +1,6 @@
 //! Words that are numbers.
 
-ghost use Rattle.std.specs.Prelude.{◌≡◌, ◌≤◌, ◌<◌, ◌&&◌, ◌||◌, ◌==◌, not, nat_lt, ◌^◌, IsTrue, length, drop, IfSome, nat_abs, neg_ℤ, pos};
+ghost use Rattle.std.specs.Prelude.{◌≡◌, ◌≤◌, ◌<◌, ◌&&◌, ◌||◌, ◌==◌, not, nat_lt, ◌^◌, IsTrue, length, drop, slice_index, IfSome, nat_abs, neg_ℤ, pos};
 ghost use Rattle.std.specs.Char.{is_ascii_digit};
 ghost use Rattle.std.specs.List.{list_all};
 ghost use Rattle.std.specs.Str.Parse.{digits_value};
@@ -13,10 +13,17 @@ fn all_digits(word: &[u8]) -> bool
     word.iter().all(|b| b.is_ascii_digit())
 }
 
+/// Not empty, and without a 0 in front of further digits.
+fn begins_plain(word: &[u8]) -> bool
+    ensures { result ≡ (not (length word.now == 0) && (length word.now == 1 || not (slice_index word.now 0 == 48))) }
+{
+    !word.is_empty() && (word.len() == 1 || word[0] != b'0')
+}
+
 fn is_plain(word: &[u8]) -> bool
     ensures { result ≡ spec.is_plain word.now }
 {
-    all_digits(word) && !word.is_empty() && (word.len() == 1 || word[0] != b'0') && word.len() < 33
+    all_digits(word) && begins_plain(word) && word.len() < 33
 }
 
 fn value_of(digits: &[u8]) -> u128
@@ -31,13 +38,52 @@ fn value_of(digits: &[u8]) -> u128
     n
 }
 
-fn magnitude_of(word: &[u8]) -> Option<u128>
+/// The value of at most 18 digits, which 64 bits hold; none where a byte is no digit.
+fn short_value(word: &[u8]) -> Option<u64>
+    requires { length word.now < 19 }
+    ensures { result ≡ spec.value_of_digits word.now }
+{
+    let mut n: u64 = 0;
+    for d in word {
+        if !d.is_ascii_digit() {
+            return None;
+        }
+        n = n * 10 + (*d - b'0') as u64;
+    }
+    Some(n)
+}
+
+/// Most numbers are short: they are read in one pass.
+fn short_magnitude(word: &[u8]) -> Option<u64>
+    requires { length word.now < 19 }
+    ensures { result ≡ spec.magnitude_of word.now }
+{
+    if begins_plain(word) {
+        short_value(word)
+    } else {
+        None
+    }
+}
+
+fn long_magnitude(word: &[u8]) -> Option<u128>
     ensures { result ≡ spec.magnitude_of word.now }
 {
     if is_plain(word) {
         Some(value_of(word))
     } else {
         None
+    }
+}
+
+fn magnitude_of(word: &[u8]) -> Option<u128>
+    ensures { result ≡ spec.magnitude_of word.now }
+{
+    if word.len() >= 19 {
+        return long_magnitude(word);
+    }
+    match short_magnitude(word) {
+        Some(n) => Some(n as u128),
+        None => None,
     }
 }
 
