@@ -4,7 +4,7 @@ use std::alloc::AllocError;
 use std::test::*;
 use strat_text::*;
 
-const S1: &str =
+const OPEN_END: &str =
     "simsat-strategy 1\ngoals 1\ngoal 0 sat\nturns to\nt\no 1\nm 1 1 1 0\nproof 4\npath 0\ndef 1 0\nsum 1 0 1 1 1\nfalse 2\nend\n";
 
 /// A node has a move twice, and the file goes wrong again further on.
@@ -13,7 +13,7 @@ const REPEATED: &str =
 
 /// Files that are read.
 const WHOLE: &[&str] = &[
-    S1,
+    OPEN_END,
     "simsat-strategy 1\ngoals 1\ngoal 0 unsat\nturns to\nt\no 1\nm 1 -1 1 0\nproof 4\npath 0\ndef 1 1\nsum 1 0 1 1 1\nfalse 2\nend\n",
     "simsat-strategy 1\ngoals 1\ngoal 0 sat\nturns to\nt\no 1\nm 2 1 1 0\nproof 13\npath 0\npart 0 0\npart 0 1\ndef 1 0\ndef 1 1\ncases 1 2\nsum 1 3 1 5 1\nfalse 6\ncases 2 2\nsum 1 5 1 6 1\nfalse 7\nsum 1 4 1 6 1\nfalse 7\nend\n",
     "simsat-strategy 1\ngoals 1\ngoal 0 sat\nturns -\nproof 2\npath 0\ncases 0 0\nend\n",
@@ -22,7 +22,7 @@ const WHOLE: &[&str] = &[
     "simsat-strategy 1\ngoals 0\nend\n",
 ];
 
-/// A line of S1, what stands in its place, and the place of the fault (0, 0 for none).
+/// A line of OPEN_END, what stands in its place, and the place of the fault (0, 0 for none).
 const DAMAGED: &[(u64, &str, (u64, u64))] = &[
     // a leading zero
     (7, "m 1 01 1 0", (7, 3)),
@@ -164,7 +164,7 @@ const AGAIN: &[(u64, &str, (u64, u64))] = &[
     (9, "m 1 0", (9, 3)),
 ];
 
-/// Endings: what follows S1, and the place of the fault.
+/// Endings: what follows OPEN_END, and the place of the fault.
 const ENDINGS: &[(&str, (u64, u64))] = &[
     ("\n", (14, 1)),
     (" ", (14, 1)),
@@ -174,9 +174,9 @@ const ENDINGS: &[(&str, (u64, u64))] = &[
     ("\r", (14, 1)),
 ];
 
-// Each byte of S1 in turn: for each the line of the fault as a hexadecimal digit, and its word; `..` where there is none.
+// Each byte of OPEN_END in turn: for each the line of the fault as a hexadecimal digit, and its word; `..` where there is none.
 
-/// The same of S1 cut after so many bytes.
+/// The same of OPEN_END cut after so many bytes.
 const CUT: &[&str] = &[
     "11 11 11 11 11 11 11 11 11 11 11 11 11 11 11 12 12 13",
     "21 21 21 21 21 22 22 23",
@@ -193,7 +193,7 @@ const CUT: &[&str] = &[
     "d1 d1 d1 d2",
 ];
 
-/// S1 with a space for the byte at this place.
+/// OPEN_END with a space for the byte at this place.
 const SPACES: &[&str] = &[
     "11 11 11 11 11 11 11 11 11 11 11 11 11 11 11 .. 12 13",
     "21 21 21 21 21 .. 22 23",
@@ -210,7 +210,7 @@ const SPACES: &[&str] = &[
     "d1 d1 d1 d2",
 ];
 
-/// S1 with the digit 7 for the byte at this place.
+/// OPEN_END with the digit 7 for the byte at this place.
 const DIGITS: &[&str] = &[
     "11 11 11 11 11 11 11 11 11 11 11 11 11 11 11 11 12 12",
     "21 21 21 21 21 21 d1 22",
@@ -227,7 +227,7 @@ const DIGITS: &[&str] = &[
     "d1 d1 d1 d1",
 ];
 
-/// S1 with the letter a for the byte at this place.
+/// OPEN_END with the letter a for the byte at this place.
 const LETTERS: &[&str] = &[
     "11 11 11 11 .. 11 11 11 11 11 .. 11 11 11 11 11 12 12",
     "21 21 .. 21 21 21 22 22",
@@ -244,7 +244,7 @@ const LETTERS: &[&str] = &[
     "d1 d1 d1 d1",
 ];
 
-/// S1 with a line feed for the byte at this place.
+/// OPEN_END with a line feed for the byte at this place.
 const LINE_FEEDS: &[&str] = &[
     "11 11 11 11 11 11 11 11 11 11 11 11 11 11 11 12 12 ..",
     "21 21 21 21 21 22 22 ..",
@@ -298,7 +298,7 @@ fn with_line(rt: &HostRuntime, file: &str, number: u64, text: &str) -> Result<Ve
 
 fn with_byte(rt: &HostRuntime, at: usize, byte: u8) -> Result<Vec<u8>, AllocError> {
     let mut out = Vec::new(rt.alloc());
-    for (i, b) in S1.as_bytes().iter().enumerate() {
+    for (i, b) in OPEN_END.as_bytes().iter().enumerate() {
         out.push(if i == at { byte } else { *b })?;
     }
     Ok(out)
@@ -314,7 +314,7 @@ fn reads_and_writes_the_vectors(rt: HostRuntime) {
 #[test]
 fn names_the_first_fault(rt: HostRuntime) -> Result<(), Fail> {
     for (line, text, want) in DAMAGED {
-        let bytes = with_line(&rt, S1, *line, text).map_err(|_| "memory")?;
+        let bytes = with_line(&rt, OPEN_END, *line, text).map_err(|_| "memory")?;
         assert_eq!(rt; place(&rt, bytes.as_slice()), *want, "line {line}: {text}");
     }
     for (line, text, want) in AGAIN {
@@ -327,7 +327,7 @@ fn names_the_first_fault(rt: HostRuntime) -> Result<(), Fail> {
 #[test]
 fn refuses_what_follows_the_end(rt: HostRuntime) -> Result<(), Fail> {
     for (ending, want) in ENDINGS {
-        let mut bytes = Vec::from_slice(rt.alloc(), S1.as_bytes()).map_err(|_| "memory")?;
+        let mut bytes = Vec::from_slice(rt.alloc(), OPEN_END.as_bytes()).map_err(|_| "memory")?;
         bytes
             .extend_from_slice(ending.as_bytes())
             .map_err(|_| "memory")?;
@@ -357,14 +357,14 @@ fn names_the_fault_of_a_cut_file(rt: HostRuntime) {
     let mut len = 0usize;
     for row in CUT {
         for place_there in row.split(' ') {
-            match S1.as_bytes().get(..len) {
+            match OPEN_END.as_bytes().get(..len) {
                 Some(bytes) => assert_eq!(rt; place(&rt, bytes), noted(place_there), "at {len}"),
                 None => assert!(rt; false),
             }
             len = len.wrapping_add(1);
         }
     }
-    assert_eq!(rt; len, S1.len());
+    assert_eq!(rt; len, OPEN_END.len());
 }
 
 #[test]
@@ -387,7 +387,7 @@ fn names_the_fault_of_a_replaced_byte(rt: HostRuntime) -> Result<(), Fail> {
                 at = at.wrapping_add(1);
             }
         }
-        assert_eq!(rt; at, S1.len());
+        assert_eq!(rt; at, OPEN_END.len());
     }
     Ok(())
 }

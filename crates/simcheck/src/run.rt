@@ -176,7 +176,7 @@ pub fn check_run<S: Shelf, O: Sink>(
     // A fault of reading comes only where the count of a fetch of SCRIPT or FILE rose; no other count changes.
     ensures counts { ReadCounted (IsNamed (names_of (map string_bytes words.now))) (S.faults shelf.old) (S.faults shelf.new) (result ≡ CheckStatus.ReadFault) }
     ensures nothing { result ≡ CheckStatus.ReadFault → O.written out.new ≡ O.written out.old }
-    // A fault of printing comes only where the sink's count rose, and a prefix of the text was written.
+    // A fault of printing comes only where the sink's count rose, or stands at its greatest value, and a prefix of the text was written.
     ensures print_fault { result ≡ CheckStatus.PrintFault → Rose (O.faults out.old) (O.faults out.new) }
     ensures part { result ≡ CheckStatus.PrintFault → SaidPart (S.files shelf.old) (names_of (map string_bytes words.now)) (O.written out.old) (O.written out.new) }
     ensures memory { result ≡ CheckStatus.Memory → (O.written out.new ≡ O.written out.old) ⊎ SaidPart (S.files shelf.old) (names_of (map string_bytes words.now)) (O.written out.old) (O.written out.new) }
