@@ -4,7 +4,7 @@ ghost use Rattle.std.specs.Prelude.{◌≡◌, ◌++◌, ◌∷◌, OnOk, IfOk, 
 ghost use Rattle.std.specs.List.{flat_map, concat};
 ghost use Rattle.cube_rules.specs.declared.step.Step.TheVariants.{Sum};
 ghost use Rattle.strat_text.specs.Written as spelled;
-ghost use Rattle.strat_text.specs.Spelling.{AreSections};
+ghost use Rattle.strat_text.specs.Spelling.{AreSections, Spells};
 
 use crate::section::{Section, Sections};
 use cube_rules::Step;
@@ -302,7 +302,8 @@ fn put_sections(out: &mut Vec<u8>, sections: &[Section]) -> Result<(), AllocErro
 /// The one spelling of the sections; refuses only for memory.
 pub fn write_file(alloc: Global, sections: &Sections) -> Result<Vec<u8>, Memory>
     requires { AreSections sections.now }
-    ensures { IfOk result (λ v. v.items ≡ spelled.spelling sections.now) }
+    ensures value { IfOk result (λ v. v.items ≡ spelled.spelling sections.now) }
+    ensures spells { IfOk result (λ v. Spells v.items sections.now) }
 {
     match spelling(alloc, sections.as_slice()) {
         Ok(bytes) => Ok(bytes),
