@@ -24,3 +24,4 @@ pub mod Changing
 pub mod Claiming
 pub mod Wrapping
 pub mod Walking
+pub mod GoalForms

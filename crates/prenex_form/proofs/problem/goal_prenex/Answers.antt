@@ -31,20 +31,20 @@ returns-in-Err-clause-fault c =
     let e = same_capped c.sort.result g.sort c.consts.result.now g.consts c.body.result.now g.body c.sort.ensures c.consts.ensures c.body.ensures.value in
     fault_form (form_of_goal g.sort g.consts t) (capped g.sort g.consts t) c.in-Err.fault
     (built_form g.sort g.consts t k.0 k.1)
-    (subst (λ (x : Option Normal). IsBuilt x (Err c.in-Err.fault)) e c.in-Err.ensures)
+    (subst (λ (x : Option Normal). IsBuilt x (Err c.in-Err.fault)) e c.in-Err.ensures.built)
 
 pub prenexed-requires-clause-closed : goal.prenexed-requires-clause-closed
 prenexed-requires-clause-closed c =
     let g = c.args.goal.now in
     let e = same_capped c.sort.result g.sort c.consts.result.now g.consts c.body.result.now g.body c.sort.ensures c.consts.ensures c.body.ensures.value in
-    (g.sort, form_closed g.sort g.consts (tree_of g.body) (shape_of c.in-Ok.normal) c.body.ensures.kept.0 (sym e ∙ c.in-Ok.ensures))
+    (g.sort, form_closed g.sort g.consts (tree_of g.body) (shape_of c.in-Ok.normal) c.body.ensures.kept.0 (sym e ∙ c.in-Ok.ensures.built))
 
 pub prenexed-requires-clause-few : goal.prenexed-requires-clause-few
 prenexed-requires-clause-few c =
     let g = c.args.goal.now in
     let k = subst (λ (x : Option FormFault). IsCounted (nodes_of g) (variables_of g) x) c.in-None.is c.in_ok-fault.ensures in
     let e = same_capped c.sort.result g.sort c.consts.result.now g.consts c.body.result.now g.body c.sort.ensures c.consts.ensures c.body.ensures.value in
-    form_few g.sort g.consts (tree_of g.body) (shape_of c.in-Ok.normal) (sym e ∙ c.in-Ok.ensures) k.1
+    form_few g.sort g.consts (tree_of g.body) (shape_of c.in-Ok.normal) (sym e ∙ c.in-Ok.ensures.built) k.1
 
 pub returns-clause-form : goal.returns-clause-form
 returns-clause-form c =
@@ -55,7 +55,7 @@ returns-clause-form c =
     let p = c.in_ok-prenexed.field-0 in
     written_form (form_of_goal g.sort g.consts t) (capped g.sort g.consts t) (shape_of c.in-Ok.normal) p.prefix p.matrix
     (built_form g.sort g.consts t k.0 k.1)
-    (sym e ∙ c.in-Ok.ensures) c.in_ok-prenexed.ensures.prefix c.in_ok-prenexed.ensures.matrix
+    (sym e ∙ c.in-Ok.ensures.built) c.in_ok-prenexed.ensures.prefix c.in_ok-prenexed.ensures.matrix
 
 pub returns-clause-kept : goal.returns-clause-kept
 returns-clause-kept c =
@@ -65,8 +65,8 @@ returns-clause-kept c =
     let e = same_capped c.sort.result g.sort c.consts.result.now g.consts c.body.result.now g.body c.sort.ensures c.consts.ensures c.body.ensures.value in
     let p = c.in_ok-prenexed.field-0 in
     let n = shape_of c.in-Ok.normal in
-    written_kept g.sort g.consts t n p.prefix p.matrix c.body.ensures.kept.0 (sym e ∙ c.in-Ok.ensures)
-    (form_few g.sort g.consts t n (sym e ∙ c.in-Ok.ensures) k.1)
+    written_kept g.sort g.consts t n p.prefix p.matrix c.body.ensures.kept.0 (sym e ∙ c.in-Ok.ensures.built)
+    (form_few g.sort g.consts t n (sym e ∙ c.in-Ok.ensures.built) k.1)
     c.in_ok-prenexed.ensures.tidy c.in_ok-prenexed.ensures.prefix c.in_ok-prenexed.ensures.matrix
 
 pub returns-clause-truth : goal.returns-clause-truth
@@ -74,4 +74,4 @@ returns-clause-truth c =
     let g = c.args.goal.now in
     let e = same_capped c.sort.result g.sort c.consts.result.now g.consts c.body.result.now g.body c.sort.ensures c.consts.ensures c.body.ensures.value in
     let p = c.in_ok-prenexed.field-0 in
-    written_true g.sort g.consts (tree_of g.body) (shape_of c.in-Ok.normal) p.prefix p.matrix c.body.ensures.kept.0 (sym e ∙ c.in-Ok.ensures) c.in_ok-prenexed.ensures.prefix c.in_ok-prenexed.ensures.matrix
+    written_true g.sort g.consts (tree_of g.body) (shape_of c.in-Ok.normal) p.prefix p.matrix c.body.ensures.kept.0 (sym e ∙ c.in-Ok.ensures.built) c.in_ok-prenexed.ensures.prefix c.in_ok-prenexed.ensures.matrix
