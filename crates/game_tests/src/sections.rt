@@ -5,13 +5,14 @@ ghost use Rattle.dom_core.specs.Game.{lit as leaf};
 ghost use Rattle.dom_core.specs.View.{matrix_of};
 ghost use Rattle.strat_check.specs.Example.{second_above_first};
 
+use crate::damaged::with_line;
 use cube_rules::Rule;
 use dom_core::{Matrix, Problem, Quant, Side};
 use dom_rat::Rat;
 use lin_term::{Lit, Memory, Row, Short, Wide};
 use smallvec::SmallVec;
 use sqlite_items::Items;
-use std::alloc::{AllocError, Global};
+use std::alloc::Global;
 use std::test::*;
 use strat_check::{Checked, check_goal};
 use strat_text::read_file;
@@ -77,24 +78,6 @@ fn judged(alloc: Global, problem: &Problem<Rat>, bytes: &[u8]) -> Option<Checked
         },
         _ => None,
     }
-}
-
-/// The file with another line in that place, counted from 1.
-fn with_line(alloc: Global, file: &str, number: u64, text: &str) -> Result<Vec<u8>, AllocError> {
-    let mut out = Vec::new(alloc);
-    let mut line = 1u64;
-    for b in file.as_bytes() {
-        if line != number {
-            out.push(*b)?;
-        } else if *b == b'\n' {
-            out.extend_from_slice(text.as_bytes())?;
-            out.push(b'\n')?;
-        }
-        if *b == b'\n' {
-            line = line.wrapping_add(1);
-        }
-    }
-    Ok(out)
 }
 
 #[test]

@@ -1,5 +1,6 @@
 //! Vectors, and files that are damaged in one place.
 
+use crate::damaged::with_line;
 use std::alloc::AllocError;
 use std::test::*;
 use strat_text::*;
@@ -24,144 +25,80 @@ const WHOLE: &[&str] = &[
 
 /// A line of OPEN_END, what stands in its place, and the place of the fault (0, 0 for none).
 const DAMAGED: &[(u64, &str, (u64, u64))] = &[
-    // a leading zero
-    (7, "m 1 01 1 0", (7, 3)),
-    // a minus before 0
-    (7, "m 1 -0 1 0", (7, 3)),
-    // a plus
-    (7, "m 1 +1 1 0", (7, 3)),
-    // a coefficient 0
-    (7, "m 1 1 0 0", (7, 4)),
-    // a divisor 0
-    (7, "m 0 1 1 0", (7, 2)),
-    // a negative divisor
-    (7, "m -1 1 1 0", (7, 2)),
-    // not in lowest form
-    (7, "m 2 2 2 0", (0, 0)),
-    // a variable at its position
-    (7, "m 1 1 1 1", (7, 5)),
-    // a variable twice
-    (7, "m 1 1 1 0 1 0", (7, 7)),
-    // a coefficient without its variable
-    (7, "m 1 1 1", (7, 5)),
-    // numbers at the cap
-    (7, "m 4503599627370496 -4503599627370496 1 0", (0, 0)),
-    // a number past the cap
-    (7, "m 1 -4503599627370497 1 0", (7, 3)),
-    // a divisor past the cap
-    (7, "m 4503599627370497 1 1 0", (7, 2)),
-    // the greatest variable
-    (10, "split >= -1 1 5 -3 1048575", (13, 1)),
-    // a variable past 2^20
-    (10, "split >= -1 1 0 -3 1048576", (10, 7)),
-    // variables that do not ascend
-    (10, "split > -1 1 5 -3 5", (10, 7)),
-    // an unknown mark
-    (10, "split = 2", (10, 2)),
-    // a modulus 0
-    (10, "split !| 0 2", (10, 3)),
-    // a second literal
-    (10, "split | 2 1 1 0 >= 1", (10, 7)),
-    // two spaces
-    (11, "sum 1 0 1  1 1", (11, 5)),
-    // a space at the end
-    (11, "sum 1 0 1 1 1 ", (11, 7)),
-    // a space at the start
-    (11, " sum 1 0 1 1 1", (11, 1)),
-    // a tab
-    (11, "sum\t1 0 1 1 1", (11, 1)),
-    // a carriage return
-    (12, "false 2\r", (12, 2)),
-    // an empty line
-    (12, "", (12, 1)),
-    // a byte order mark
-    (1, "\u{feff}simsat-strategy 1", (1, 1)),
-    // another version
-    (1, "simsat-strategy 2", (1, 2)),
-    // the greatest count
-    (2, "goals 4503599627370496", (13, 1)),
-    // a count past the cap
-    (2, "goals 4503599627370497", (2, 2)),
-    // the number of another goal
-    (3, "goal 1 sat", (3, 2)),
-    // an unknown verdict
-    (3, "goal 0 maybe", (3, 3)),
-    // two words of turns
-    (4, "turns t o", (4, 3)),
-    // no turns
-    (4, "turns", (4, 2)),
-    // an unknown turn
-    (4, "turns tx", (4, 2)),
-    // another turn
-    (5, "o 1", (5, 1)),
-    // the greatest count of moves
-    (6, "o 4503599627370496", (8, 1)),
-    // no move
-    (6, "o 0", (6, 2)),
-    // the greatest count of lines
-    (8, "proof 4503599627370496", (13, 1)),
-    // no proof line
-    (8, "proof 0", (8, 2)),
-    // a line too many
-    (8, "proof 3", (12, 1)),
-    // a line missing
-    (8, "proof 5", (13, 1)),
-    // the greatest index
-    (10, "def 4294967295 0", (0, 0)),
-    // an index past it
-    (10, "def 4294967296 0", (10, 2)),
-    // an index past 64 bits
-    (10, "def 18446744073709551616 0", (10, 2)),
-    // a negative index
-    (10, "def 1 -1", (10, 3)),
-    // a proof that closes early
-    (10, "false 0", (11, 1)),
-    // a proof that stays open
-    (12, "path 0", (13, 1)),
-    // no case
-    (12, "cases 2 0", (0, 0)),
-    // very many cases
-    (12, "cases 2 4503599627370496", (13, 1)),
-    // a count past the cap
-    (12, "cases 2 4503599627370497", (12, 3)),
-    // the greatest divisor of a sum
-    (11, "sum 1 0 1 1 40564819207303340847894502572032", (0, 0)),
-    // a negative one
-    (11, "sum 0 0 -1 1 -40564819207303340847894502572032", (0, 0)),
-    // a divisor past 2^105
-    (11, "sum 1 0 1 1 40564819207303340847894502572033", (11, 6)),
-    // a factor past the cap
-    (11, "sum 4503599627370497 0 1 1 1", (11, 2)),
+    (7, "m 1 01 1 0", (7, 3)), // a leading zero
+    (7, "m 1 -0 1 0", (7, 3)), // a minus before 0
+    (7, "m 1 +1 1 0", (7, 3)), // a plus
+    (7, "m 1 1 0 0", (7, 4)), // a coefficient 0
+    (7, "m 0 1 1 0", (7, 2)), // a divisor 0
+    (7, "m -1 1 1 0", (7, 2)), // a negative divisor
+    (7, "m 2 2 2 0", (0, 0)), // not in lowest form
+    (7, "m 1 1 1 1", (7, 5)), // a variable at its position
+    (7, "m 1 1 1 0 1 0", (7, 7)), // a variable twice
+    (7, "m 1 1 1", (7, 5)), // a coefficient without its variable
+    (7, "m 4503599627370496 -4503599627370496 1 0", (0, 0)), // numbers at the cap
+    (7, "m 1 -4503599627370497 1 0", (7, 3)), // a number past the cap
+    (7, "m 4503599627370497 1 1 0", (7, 2)), // a divisor past the cap
+    (10, "split >= -1 1 5 -3 1048575", (13, 1)), // the greatest variable
+    (10, "split >= -1 1 0 -3 1048576", (10, 7)), // a variable past 2^20
+    (10, "split > -1 1 5 -3 5", (10, 7)), // variables that do not ascend
+    (10, "split = 2", (10, 2)), // an unknown mark
+    (10, "split !| 0 2", (10, 3)), // a modulus 0
+    (10, "split | 2 1 1 0 >= 1", (10, 7)), // a second literal
+    (11, "sum 1 0 1  1 1", (11, 5)), // two spaces
+    (11, "sum 1 0 1 1 1 ", (11, 7)), // a space at the end
+    (11, " sum 1 0 1 1 1", (11, 1)), // a space at the start
+    (11, "sum\t1 0 1 1 1", (11, 1)), // a tab
+    (12, "false 2\r", (12, 2)), // a carriage return
+    (12, "", (12, 1)), // an empty line
+    (1, "\u{feff}simsat-strategy 1", (1, 1)), // a byte order mark
+    (1, "simsat-strategy 2", (1, 2)), // another version
+    (2, "goals 4503599627370496", (13, 1)), // the greatest count
+    (2, "goals 4503599627370497", (2, 2)), // a count past the cap
+    (3, "goal 1 sat", (3, 2)), // the number of another goal
+    (3, "goal 0 maybe", (3, 3)), // an unknown verdict
+    (4, "turns t o", (4, 3)), // two words of turns
+    (4, "turns", (4, 2)), // no turns
+    (4, "turns tx", (4, 2)), // an unknown turn
+    (5, "o 1", (5, 1)), // another turn
+    (6, "o 4503599627370496", (8, 1)), // the greatest count of moves
+    (6, "o 0", (6, 2)), // no move
+    (8, "proof 4503599627370496", (13, 1)), // the greatest count of lines
+    (8, "proof 0", (8, 2)), // no proof line
+    (8, "proof 3", (12, 1)), // a line too many
+    (8, "proof 5", (13, 1)), // a line missing
+    (10, "def 4294967295 0", (0, 0)), // the greatest index
+    (10, "def 4294967296 0", (10, 2)), // an index past it
+    (10, "def 18446744073709551616 0", (10, 2)), // an index past 64 bits
+    (10, "def 1 -1", (10, 3)), // a negative index
+    (10, "false 0", (11, 1)), // a proof that closes early
+    (12, "path 0", (13, 1)), // a proof that stays open
+    (12, "cases 2 0", (0, 0)), // no case
+    (12, "cases 2 4503599627370496", (13, 1)), // very many cases
+    (12, "cases 2 4503599627370497", (12, 3)), // a count past the cap
+    (11, "sum 1 0 1 1 40564819207303340847894502572032", (0, 0)), // the greatest divisor of a sum
+    (11, "sum 0 0 -1 1 -40564819207303340847894502572032", (0, 0)), // a negative one
+    (11, "sum 1 0 1 1 40564819207303340847894502572033", (11, 6)), // a divisor past 2^105
+    (11, "sum 4503599627370497 0 1 1 1", (11, 2)), // a factor past the cap
     // sixty digits
     (
         11,
         "sum 1 0 1 1 999999999999999999999999999999999999999999999999999999999999",
         (11, 6),
     ),
-    // no index
-    (10, "cube", (10, 2)),
-    // a word for an index
-    (10, "cube 0 x", (10, 3)),
-    // an unknown rule
-    (10, "learn >= 0", (10, 1)),
+    (10, "cube", (10, 2)), // no index
+    (10, "cube 0 x", (10, 3)), // a word for an index
+    (10, "learn >= 0", (10, 1)), // an unknown rule
 ];
 
 /// The same for REPEATED.
 const AGAIN: &[(u64, &str, (u64, u64))] = &[
-    // the second move again
-    (12, "m 1 0 1 0", (12, 5)),
-    // and a word
-    (12, "m 1 0 1 0 x", (12, 6)),
-    // and a number
-    (12, "m 1 0 1 0 1", (12, 7)),
-    // and a line
-    (12, "m 1 0 1 0\nend", (12, 5)),
-    // the same value, otherwise written
-    (12, "m 2 0 2 0", (13, 3)),
-    // a fault in its words
-    (12, "m 1 2 3", (12, 5)),
-    // a move of the node above
-    (9, "m 1 0", (9, 3)),
+    (12, "m 1 0 1 0", (12, 5)), // the second move again
+    (12, "m 1 0 1 0 x", (12, 6)), // and a word
+    (12, "m 1 0 1 0 1", (12, 7)), // and a number
+    (12, "m 1 0 1 0\nend", (12, 5)), // and a line
+    (12, "m 2 0 2 0", (13, 3)), // the same value, otherwise written
+    (12, "m 1 2 3", (12, 5)), // a fault in its words
+    (9, "m 1 0", (9, 3)), // a move of the node above
 ];
 
 /// Endings: what follows OPEN_END, and the place of the fault.
@@ -279,23 +216,6 @@ fn place(rt: &HostRuntime, bytes: &[u8]) -> (u64, u64) {
     }
 }
 
-fn with_line(rt: &HostRuntime, file: &str, number: u64, text: &str) -> Result<Vec<u8>, AllocError> {
-    let mut out = Vec::new(rt.alloc());
-    let mut line = 1u64;
-    for b in file.as_bytes() {
-        if line != number {
-            out.push(*b)?;
-        } else if *b == b'\n' {
-            out.extend_from_slice(text.as_bytes())?;
-            out.push(b'\n')?;
-        }
-        if *b == b'\n' {
-            line = line.wrapping_add(1);
-        }
-    }
-    Ok(out)
-}
-
 fn with_byte(rt: &HostRuntime, at: usize, byte: u8) -> Result<Vec<u8>, AllocError> {
     let mut out = Vec::new(rt.alloc());
     for (i, b) in OPEN_END.as_bytes().iter().enumerate() {
@@ -314,11 +234,11 @@ fn reads_and_writes_the_vectors(rt: HostRuntime) {
 #[test]
 fn names_the_first_fault(rt: HostRuntime) -> Result<(), Fail> {
     for (line, text, want) in DAMAGED {
-        let bytes = with_line(&rt, OPEN_END, *line, text).map_err(|_| "memory")?;
+        let bytes = with_line(rt.alloc(), OPEN_END, *line, text).map_err(|_| "memory")?;
         assert_eq!(rt; place(&rt, bytes.as_slice()), *want, "line {line}: {text}");
     }
     for (line, text, want) in AGAIN {
-        let bytes = with_line(&rt, REPEATED, *line, text).map_err(|_| "memory")?;
+        let bytes = with_line(rt.alloc(), REPEATED, *line, text).map_err(|_| "memory")?;
         assert_eq!(rt; place(&rt, bytes.as_slice()), *want, "line {line}: {text}");
     }
     Ok(())

@@ -1,5 +1,4 @@
-ghost use Rattle.std.specs.Prelude.{◌<◌};
-
+use crate::escaped::decoded;
 use smt_lex::TokenKind;
 use smt_tree::*;
 use ss_names::{FaultKind, ScriptFault};
@@ -46,33 +45,6 @@ a 0 Unclosed 1 1
 (a)%0D%0A(b%0D%0A 1 Unclosed 2 1
 (a)(b 1 Unclosed 1 4
 ";
-
-fn hex(digit: u8) -> u8
-    ensures { result < 16 }
-{
-    match digit {
-        b'0'..=b'9' => digit - b'0',
-        b'A'..=b'F' => digit - b'A' + 10,
-        _ => 0,
-    }
-}
-
-// The bytes of a text in which `%` and two hexadecimal digits stand for a byte.
-fn decoded(alloc: Global, text: &str) -> Result<Vec<u8>, Fail> {
-    let mut bytes = Vec::new(alloc);
-    let mut is_first = true;
-    for part in text.as_bytes().split(|b| *b == b'%') {
-        match part {
-            [high, low, plain @ ..] if !is_first => {
-                bytes.push(hex(*high) * 16 + hex(*low))?;
-                bytes.extend_from_slice(plain)?;
-            }
-            _ => bytes.extend_from_slice(part)?,
-        }
-        is_first = false;
-    }
-    Ok(bytes)
-}
 
 // How many expressions come, and the fault behind them.
 fn counted(alloc: Global, script: &[u8]) -> (u64, Option<(FaultKind, u64, u64)>) {

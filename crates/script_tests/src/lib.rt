@@ -2,6 +2,8 @@
 #![tactic(auto)]
 
 #[cfg(test)]
+mod escaped;
+#[cfg(test)]
 mod expressions;
 #[cfg(test)]
 mod operators;

@@ -1,5 +1,4 @@
-ghost use Rattle.std.specs.Prelude.{◌<◌};
-
+use crate::escaped::decoded;
 use smt_lex::*;
 use ss_names::ScriptFault;
 use std::alloc::Global;
@@ -92,33 +91,6 @@ a%0Cb Token:1:1
 %22a;b%22%20c Text:1:1:a;b Symbol:1:7:c
 ;%20%22open%0A|x| Quoted:2:1:x
 ";
-
-fn hex(digit: u8) -> u8
-    ensures { result < 16 }
-{
-    match digit {
-        b'0'..=b'9' => digit - b'0',
-        b'A'..=b'F' => digit - b'A' + 10,
-        _ => 0,
-    }
-}
-
-// The bytes of a text in which `%` and two hexadecimal digits stand for a byte.
-fn decoded(alloc: Global, text: &str) -> Result<Vec<u8>, Fail> {
-    let mut bytes = Vec::new(alloc);
-    let mut is_first = true;
-    for part in text.as_bytes().split(|b| *b == b'%') {
-        match part {
-            [high, low, plain @ ..] if !is_first => {
-                bytes.push(hex(*high) * 16 + hex(*low))?;
-                bytes.extend_from_slice(plain)?;
-            }
-            _ => bytes.extend_from_slice(part)?,
-        }
-        is_first = false;
-    }
-    Ok(bytes)
-}
 
 fn push_bytes(alloc: Global, out: &mut String, bytes: &[u8]) -> Result<(), Fail> {
     for b in bytes {
