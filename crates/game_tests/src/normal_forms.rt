@@ -29,6 +29,32 @@ fn literals(rt: HostRuntime) -> Result<(), Fail> {
     Ok(())
 }
 
+/// What stands below an `exists`.
+fn below_exists(form: &Normal) -> Option<&Normal> {
+    match form {
+        Normal::Exists(inner) => Some(inner.get()),
+        _ => None,
+    }
+}
+
+fn is_three_parts(form: &Normal) -> bool {
+    match form {
+        Normal::And(parts) => parts.len() == 3,
+        _ => false,
+    }
+}
+
+/// Whether three parts stand below two `exists`.
+fn has_quotient(form: &Normal) -> bool {
+    let Some(outer) = below_exists(form) else {
+        return false;
+    };
+    match below_exists(outer) {
+        Some(inner) => is_three_parts(inner),
+        None => false,
+    }
+}
+
 /// Whether x div 2 < 1 has a quotient of its own, between two bounds.
 fn is_between_bounds(alloc: Global) -> Result<bool, FormFault> {
     let x = Boxed::new(alloc, Term::Var(0))?;
@@ -36,16 +62,7 @@ fn is_between_bounds(alloc: Global) -> Result<bool, FormFault> {
     let half = Boxed::new(alloc, Term::Div(x, two))?;
     let one = Boxed::new(alloc, Term::Number { num: 1, den: 1 })?;
     let form = normal_form(alloc, Sort::Int, &[VarSort::Number], &Term::Less(half, one))?;
-    match form {
-        Normal::Exists(outer) => match outer.get() {
-            Normal::Exists(inner) => match inner.get() {
-                Normal::And(parts) => Ok(parts.len() == 3),
-                _ => Ok(false),
-            },
-            _ => Ok(false),
-        },
-        _ => Ok(false),
-    }
+    Ok(has_quotient(&form))
 }
 
 #[test]

@@ -7,6 +7,7 @@ use lin_term::{Lit, Row, Sort};
 use lin_truth::Goal;
 use prenex_form::problem_of;
 use smt_goal::read_script;
+use ss_names::ScriptFault;
 use std::alloc::{AllocError, Global};
 use std::test::Fail;
 
@@ -99,16 +100,20 @@ fn shown<D: Domain>(alloc: Global, problem: &Problem<D>) -> Result<String, Alloc
     Ok(out)
 }
 
+fn shown_of<D: Domain>(
+    alloc: Global,
+    found: Result<Problem<D>, ScriptFault>,
+) -> Result<String, Fail> {
+    match found {
+        Ok(problem) => Ok(shown(alloc, &problem)?),
+        Err(_) => Err("no problem".into()),
+    }
+}
+
 fn answer(alloc: Global, goal: &Goal) -> Result<String, Fail> {
     match goal.sort() {
-        Sort::Rat => match problem_of::<Rat>(alloc, goal) {
-            Ok(problem) => Ok(shown(alloc, &problem)?),
-            Err(_) => Err("no problem".into()),
-        },
-        Sort::Int => match problem_of::<Int>(alloc, goal) {
-            Ok(problem) => Ok(shown(alloc, &problem)?),
-            Err(_) => Err("no problem".into()),
-        },
+        Sort::Rat => shown_of(alloc, problem_of::<Rat>(alloc, goal)),
+        Sort::Int => shown_of(alloc, problem_of::<Int>(alloc, goal)),
     }
 }
 
