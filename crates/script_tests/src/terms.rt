@@ -64,6 +64,14 @@ LIA (assert (= (mod x (- 3 3)) 1)) ==> Divisor 1 12
 LIA (assert (= (abs x) 1.0)) ==> Sort 1 20
 ";
 
+// A whole number, or a fraction.
+fn ratio(alloc: Global, num: i64, den: i64) -> Result<String, AllocError> {
+    if den == 1 {
+        return format!(in alloc; "{num}");
+    }
+    format!(in alloc; "{num}/{den}")
+}
+
 // A blank, and then the term, where it has no other operators than those of the table of terms.
 #[cycle(put)]
 fn put(alloc: Global, out: &mut String, term: &Term) -> Result<(), AllocError> {
@@ -71,11 +79,7 @@ fn put(alloc: Global, out: &mut String, term: &Term) -> Result<(), AllocError> {
     match term {
         Term::True => out.push_str("true"),
         Term::Number { num, den } => {
-            let text = if *den == 1 {
-                format!(in alloc; "{num}")?
-            } else {
-                format!(in alloc; "{num}/{den}")?
-            };
+            let text = ratio(alloc, *num, *den)?;
             out.push_str(text.as_str())
         }
         Term::Var(place) => {
@@ -87,48 +91,16 @@ fn put(alloc: Global, out: &mut String, term: &Term) -> Result<(), AllocError> {
             let text = format!(in alloc; "(divisible {n}")?;
             put_one(alloc, out, text.as_str(), a.get())
         }
-        Term::Minus(a, b) => {
-            out.push_str("(-")?;
-            put(alloc, out, a.get())?;
-            put(alloc, out, b.get())?;
-            out.push_str(")")
-        }
-        Term::Less(a, b) => {
-            out.push_str("(<")?;
-            put(alloc, out, a.get())?;
-            put(alloc, out, b.get())?;
-            out.push_str(")")
-        }
-        Term::AtMost(a, b) => {
-            out.push_str("(<=")?;
-            put(alloc, out, a.get())?;
-            put(alloc, out, b.get())?;
-            out.push_str(")")
-        }
-        Term::Equal(a, b) => {
-            out.push_str("(=")?;
-            put(alloc, out, a.get())?;
-            put(alloc, out, b.get())?;
-            out.push_str(")")
-        }
-        Term::Xor(a, b) => {
-            out.push_str("(xor")?;
-            put(alloc, out, a.get())?;
-            put(alloc, out, b.get())?;
-            out.push_str(")")
-        }
-        Term::Implies(a, b) => {
-            out.push_str("(=>")?;
-            put(alloc, out, a.get())?;
-            put(alloc, out, b.get())?;
-            out.push_str(")")
-        }
+        Term::Minus(a, b) => put_two(alloc, out, "(-", a.get(), b.get()),
+        Term::Less(a, b) => put_two(alloc, out, "(<", a.get(), b.get()),
+        Term::AtMost(a, b) => put_two(alloc, out, "(<=", a.get(), b.get()),
+        Term::Equal(a, b) => put_two(alloc, out, "(=", a.get(), b.get()),
+        Term::Xor(a, b) => put_two(alloc, out, "(xor", a.get(), b.get()),
+        Term::Implies(a, b) => put_two(alloc, out, "(=>", a.get(), b.get()),
         Term::Ite(c, a, b) => {
             out.push_str("(ite")?;
             put(alloc, out, c.get())?;
-            put(alloc, out, a.get())?;
-            put(alloc, out, b.get())?;
-            out.push_str(")")
+            put_two(alloc, out, "", a.get(), b.get())
         }
         Term::Plus(parts) => put_all(alloc, out, "(+", parts.as_slice()),
         Term::And(parts) => put_all(alloc, out, "(and", parts.as_slice()),
@@ -148,6 +120,20 @@ fn put(alloc: Global, out: &mut String, term: &Term) -> Result<(), AllocError> {
 fn put_one(alloc: Global, out: &mut String, word: &str, a: &Term) -> Result<(), AllocError> {
     out.push_str(word)?;
     put(alloc, out, a)?;
+    out.push_str(")")
+}
+
+#[cycle(put)]
+fn put_two(
+    alloc: Global,
+    out: &mut String,
+    word: &str,
+    a: &Term,
+    b: &Term,
+) -> Result<(), AllocError> {
+    out.push_str(word)?;
+    put(alloc, out, a)?;
+    put(alloc, out, b)?;
     out.push_str(")")
 }
 
