@@ -6,6 +6,8 @@ mod report;
 mod run;
 mod status;
 #[cfg(test)]
+mod tables;
+#[cfg(test)]
 mod tests;
 
 use run::check_run;
