@@ -1,6 +1,6 @@
 -- What the normal form of a goal is worth.
 use Rattle.std.specs.Prelude.{Result, Ok, Err, IfOk, List, []}
-use Rattle.std.proofs.Common.{◌≡◌, sym, subst}
+use Rattle.std.proofs.Common.{sym, subst}
 use Rattle.lin_term.specs.declared.Sort.{Sort}
 use Rattle.lin_term.specs.Linear.{origin}
 use Rattle.lin_truth.specs.declared.term.VarSort.{VarSort}

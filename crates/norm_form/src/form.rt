@@ -10,8 +10,8 @@ ghost use Rattle.norm_form.specs.Cap.{capped};
 ghost use Rattle.norm_form.specs.Normal.{IsNormal, TrueN};
 ghost use Rattle.norm_form.specs.View.{IsBuilt, shape_of};
 
+use crate::formula::bound;
 use crate::normal::Normal;
-use crate::walk::bound;
 use lin_form::FormFault;
 use lin_term::Sort;
 use lin_truth::{Term, VarSort};

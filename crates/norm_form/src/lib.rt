@@ -8,10 +8,11 @@ mod claim;
 mod connective;
 mod count;
 mod form;
+mod formula;
 mod literal;
 mod normal;
+mod number;
 mod scope;
-mod walk;
 
 pub use count::{LIMIT, Rate, formula_count};
 pub use form::normal_form;

@@ -1,33 +1,31 @@
-//! The walk over a goal's body: each formula becomes its normal form, and each number the cases of its linear form. A sum is
-//! a loop over its terms, and native calls go as deep as the body does.
+//! The walk over the numbers of a goal's body: each becomes the cases of its linear form. A sum is a loop over its terms, and
+//! native calls go as deep as the body does.
 
-ghost use Rattle.std.specs.Prelude.{◌≡◌, ◌∷◌, [], ℕ, true, false, Option};
+ghost use Rattle.std.specs.Prelude.{◌∷◌, [], ℕ, true, false, Option};
 ghost use Rattle.lin_form.specs.Lin.{Lin};
+ghost use Rattle.lin_form.specs.Low.{as_lin};
+ghost use Rattle.lin_truth.specs.Value.{zero_value, one_value};
 ghost use Rattle.lin_truth.specs.View.{tree_of, trees_of};
 ghost use Rattle.norm_form.specs.Cap.{capped_maker};
 ghost use Rattle.norm_form.specs.Cases.{AreCases, AreBack, AreTurnedBack, stepped};
-ghost use Rattle.norm_form.specs.Norm.{gnorm, gnorms, glin, glin_sum, glin_product, gbind};
-ghost use Rattle.lin_form.specs.Low.{as_lin};
-ghost use Rattle.lin_truth.specs.Value.{zero_value, one_value};
+ghost use Rattle.norm_form.specs.Norm.{gnorm, glin, glin_sum, glin_product};
 ghost use Rattle.norm_form.specs.Normal.{Normal as NormalTree};
-ghost use Rattle.norm_form.specs.View.{IsBuilt};
 ghost use Rattle.norm_form.specs.Pairing.{other_part, test_part, paired_form};
+ghost use Rattle.norm_form.specs.View.{IsBuilt};
 
-use crate::branches::{Case, LEVELS, leaf_cases, one, righted};
+use crate::branches::{Case, leaf_cases, one, righted};
 use crate::change::{Change, Division, Step, divided_cases, joined_back, pair_cases, turned};
-use crate::claim::{Claim, atom};
-use crate::connective::{Contraries, both, choice_of, same_of};
-use crate::normal::{Normal, closed, joined};
-use crate::scope::{is_formula_in, truth_literal, with_bound, wrapped};
-use lin_form::{Bound, FormFault, LinForm, constant_form, direct_form, is_direct, level_of};
+use crate::connective::Contraries;
+use crate::formula::both_ways;
+use lin_form::{Bound, FormFault, LinForm, constant_form, direct_form, is_direct};
 use lin_term::{Row, Sort};
-use lin_truth::{Term, VarSort};
+use lin_truth::Term;
 use sqlite_items::Items;
 use std::alloc::Global;
 
 /// The linear forms of a number with its cases, at a level: below that many binders.
 #[cycle(walk)]
-fn number(
+pub(crate) fn number(
     alloc: Global,
     sort: Sort,
     ctx: &[Bound],
@@ -79,7 +77,7 @@ fn number(
 
 /// A step on a number and a second one.
 #[cycle(walk)]
-fn second(
+pub(crate) fn second(
     alloc: Global,
     sort: Sort,
     ctx: &[Bound],
@@ -313,204 +311,4 @@ fn pair_of(
     let first = x.copy(alloc)?;
     let by = test(alloc, sort, ctx, term, level);
     pair_cases(alloc, level, first, y, by)
-}
-
-/// The normal forms of a formula and of its negation.
-#[cycle(walk)]
-fn both_ways(alloc: Global, sort: Sort, ctx: &[Bound], term: &Term, level: u32) -> Contraries
-    ensures yes { IsBuilt (gnorm capped_maker (tree_of term.now) sort true ctx.now level) result.yes }
-    ensures no { IsBuilt (gnorm capped_maker (tree_of term.now) sort false ctx.now level) result.no }
-{
-    Contraries {
-        yes: formula(alloc, sort, ctx, term, true, level),
-        no: formula(alloc, sort, ctx, term, false, level),
-    }
-}
-
-/// The normal form of a formula, or of its negation, below a number of binders.
-#[cycle(walk)]
-fn formula(
-    alloc: Global,
-    sort: Sort,
-    ctx: &[Bound],
-    term: &Term,
-    truth: bool,
-    level: u32,
-) -> Result<Normal, FormFault>
-    ensures { IsBuilt (gnorm capped_maker (tree_of term.now) sort truth ctx.now level) result }
-{
-    match term {
-        Term::True => Ok(closed(alloc, truth)),
-        Term::Var(i) => truth_literal(alloc, sort, truth, level_of(ctx, *i)),
-        Term::Not(t) => formula(alloc, sort, ctx, t.get(), !truth, level),
-        Term::Implies(a, b) => {
-            let x = formula(alloc, sort, ctx, a.get(), !truth, level);
-            let y = formula(alloc, sort, ctx, b.get(), truth, level);
-            both(alloc, !truth, x, y)
-        }
-        Term::Ite(c, a, b) => {
-            let test = both_ways(alloc, sort, ctx, c.get(), level);
-            let x = formula(alloc, sort, ctx, a.get(), truth, level);
-            let y = formula(alloc, sort, ctx, b.get(), truth, level);
-            choice_of(alloc, test, x, y)
-        }
-        Term::And(ts) => parts(alloc, sort, ctx, ts.as_slice(), truth, truth, level),
-        Term::Or(ts) => parts(alloc, sort, ctx, ts.as_slice(), !truth, truth, level),
-        Term::Forall(vs, t) => bound(
-            alloc,
-            sort,
-            ctx,
-            truth,
-            vs.as_slice(),
-            t.get(),
-            truth,
-            level,
-        ),
-        Term::Exists(vs, t) => bound(
-            alloc,
-            sort,
-            ctx,
-            !truth,
-            vs.as_slice(),
-            t.get(),
-            truth,
-            level,
-        ),
-        Term::Equal(_, _) => sameness(alloc, sort, ctx, term, truth, level),
-        Term::Xor(_, _) => sameness(alloc, sort, ctx, term, truth, level),
-        Term::Divisible(_, _) => comparison(alloc, sort, ctx, term, truth, level),
-        Term::Less(_, _) => comparison(alloc, sort, ctx, term, truth, level),
-        Term::AtMost(_, _) => comparison(alloc, sort, ctx, term, truth, level),
-        Term::Greater(_, _) => comparison(alloc, sort, ctx, term, truth, level),
-        Term::AtLeast(_, _) => comparison(alloc, sort, ctx, term, truth, level),
-        Term::False => Ok(closed(alloc, !truth)),
-        Term::Number { .. } => Ok(closed(alloc, !truth)),
-        Term::Negative(_) => Ok(closed(alloc, !truth)),
-        Term::Abs(_) => Ok(closed(alloc, !truth)),
-        Term::Minus(_, _) => Ok(closed(alloc, !truth)),
-        Term::Quotient(_, _) => Ok(closed(alloc, !truth)),
-        Term::Div(_, _) => Ok(closed(alloc, !truth)),
-        Term::Mod(_, _) => Ok(closed(alloc, !truth)),
-        Term::Plus(_) => Ok(closed(alloc, !truth)),
-        Term::Times(_) => Ok(closed(alloc, !truth)),
-    }
-}
-
-/// The normal form of an equality of formulas or numbers, or of an exclusive or; asked of nothing else.
-#[cycle(walk)]
-fn sameness(
-    alloc: Global,
-    sort: Sort,
-    ctx: &[Bound],
-    term: &Term,
-    truth: bool,
-    level: u32,
-) -> Result<Normal, FormFault>
-    ensures { IsBuilt (gnorm capped_maker (tree_of term.now) sort truth ctx.now level) result }
-{
-    match term {
-        Term::Equal(a, b) => {
-            if is_formula_in(a.get(), ctx) {
-                let x = both_ways(alloc, sort, ctx, a.get(), level);
-                let y = both_ways(alloc, sort, ctx, b.get(), level);
-                return same_of(alloc, truth, x, y);
-            }
-            let x = number(alloc, sort, ctx, a.get(), level);
-            let z = second(alloc, sort, ctx, Step::Minus, x, b.get());
-            atom(alloc, sort, Claim::Zero, truth, z)
-        }
-        Term::Xor(a, b) => {
-            let x = both_ways(alloc, sort, ctx, a.get(), level);
-            let y = both_ways(alloc, sort, ctx, b.get(), level);
-            same_of(alloc, !truth, x, y)
-        }
-        _ => Err(FormFault::Memory),
-    }
-}
-
-/// The normal form of a comparison or a divisibility; asked of nothing else.
-#[cycle(walk)]
-fn comparison(
-    alloc: Global,
-    sort: Sort,
-    ctx: &[Bound],
-    term: &Term,
-    truth: bool,
-    level: u32,
-) -> Result<Normal, FormFault>
-    ensures { IsBuilt (gnorm capped_maker (tree_of term.now) sort truth ctx.now level) result }
-{
-    match term {
-        Term::Divisible(n, t) => {
-            let x = number(alloc, sort, ctx, t.get(), level);
-            atom(alloc, sort, Claim::Divides(*n), truth, x)
-        }
-        Term::Less(a, b) => {
-            let x = number(alloc, sort, ctx, a.get(), level);
-            let z = second(alloc, sort, ctx, Step::From, x, b.get());
-            atom(alloc, sort, Claim::Above, truth, z)
-        }
-        Term::AtMost(a, b) => {
-            let x = number(alloc, sort, ctx, a.get(), level);
-            let z = second(alloc, sort, ctx, Step::From, x, b.get());
-            atom(alloc, sort, Claim::AtLeast, truth, z)
-        }
-        Term::Greater(a, b) => {
-            let x = number(alloc, sort, ctx, a.get(), level);
-            let z = second(alloc, sort, ctx, Step::Minus, x, b.get());
-            atom(alloc, sort, Claim::Above, truth, z)
-        }
-        Term::AtLeast(a, b) => {
-            let x = number(alloc, sort, ctx, a.get(), level);
-            let z = second(alloc, sort, ctx, Step::Minus, x, b.get());
-            atom(alloc, sort, Claim::AtLeast, truth, z)
-        }
-        _ => Err(FormFault::Memory),
-    }
-}
-
-/// All formulas, or one of them.
-#[cycle(walk)]
-fn parts(
-    alloc: Global,
-    sort: Sort,
-    ctx: &[Bound],
-    terms: &[Term],
-    all: bool,
-    truth: bool,
-    level: u32,
-) -> Result<Normal, FormFault>
-    ensures { IsBuilt (capped_maker.joined_by all (gnorms capped_maker (trees_of terms.now) sort truth ctx.now level)) result }
-{
-    let mut made = Items::new(alloc);
-    for term in terms {
-        match formula(alloc, sort, ctx, term, truth, level) {
-            Ok(part) => made.push(part)?,
-            Err(fault) => return Err(fault),
-        }
-    }
-    Ok(joined(all, made))
-}
-
-/// A formula under bound variables. Past 2^20 levels, which no goal has, the answer is want of memory.
-#[cycle(walk)]
-pub(crate) fn bound(
-    alloc: Global,
-    sort: Sort,
-    ctx: &[Bound],
-    every: bool,
-    vars: &[VarSort],
-    body: &Term,
-    truth: bool,
-    level: u32,
-) -> Result<Normal, FormFault>
-    ensures { IsBuilt (gbind capped_maker every vars.now (λ c e. gnorm capped_maker (tree_of body.now) sort truth c e) ctx.now level) result }
-{
-    if level >= LEVELS || vars.len() >= LEVELS as usize {
-        return Err(FormFault::Memory);
-    }
-    let all = with_bound(alloc, ctx, vars, level)?;
-    let deep = level + vars.len() as u32;
-    let inner = formula(alloc, sort, all.as_slice(), body, truth, deep);
-    wrapped(alloc, every, vars, inner)
 }
