@@ -52,23 +52,7 @@ pub fn constant_form(alloc: Global, term: &Term) -> Result<LinForm, FormFault>
         }
         Term::Plus(ts) => constant_sum(alloc, ts.as_slice()),
         Term::Times(ts) => constant_product(alloc, ts.as_slice()),
-        Term::True => Ok(nothing(alloc)),
-        Term::False => Ok(nothing(alloc)),
-        Term::Var(_) => Ok(nothing(alloc)),
-        Term::Not(_) => Ok(nothing(alloc)),
-        Term::Divisible(_, _) => Ok(nothing(alloc)),
-        Term::Less(_, _) => Ok(nothing(alloc)),
-        Term::AtMost(_, _) => Ok(nothing(alloc)),
-        Term::Greater(_, _) => Ok(nothing(alloc)),
-        Term::AtLeast(_, _) => Ok(nothing(alloc)),
-        Term::Equal(_, _) => Ok(nothing(alloc)),
-        Term::Xor(_, _) => Ok(nothing(alloc)),
-        Term::Implies(_, _) => Ok(nothing(alloc)),
-        Term::Ite(_, _, _) => Ok(nothing(alloc)),
-        Term::And(_) => Ok(nothing(alloc)),
-        Term::Or(_) => Ok(nothing(alloc)),
-        Term::Forall(_, _) => Ok(nothing(alloc)),
-        Term::Exists(_, _) => Ok(nothing(alloc)),
+        _ => Ok(nothing(alloc)),
     }
 }
 
