@@ -16,6 +16,8 @@ pub mod Within
 pub mod Ascending
 pub mod Numbering
 pub mod Cutting
+pub mod Remaining
+pub mod Plain
 pub mod Shapes
 pub mod Signing
 pub mod Running

@@ -1,16 +1,14 @@
 //! The size of the form of a goal, counted on the goal in one pass and without the form. The form can be exponentially
 //! larger than the goal, so a count stops at a limit.
 
-ghost use Rattle.std.specs.Prelude.{ℕ, ◌≡◌, ◌+◌, ◌*◌, ◌≤◌, IfOk, min, List, ◌++◌, length, ◌&&◌, nat_eq, true, false};
-ghost use Rattle.lin_truth.specs.Constant.{is_constant as is_constant_tree};
+ghost use Rattle.std.specs.Prelude.{ℕ, ◌≡◌, ◌+◌, ◌*◌, ◌≤◌, IfOk, min, List, ◌++◌, length, nat_eq, true, false};
 ghost use Rattle.lin_truth.specs.Formed.{append_all};
 ghost use Rattle.lin_truth.specs.Truth.{is_formula as is_formula_tree};
 ghost use Rattle.lin_truth.specs.View.{tree_of, trees_of};
 ghost use Rattle.norm_form.specs.Load.{load, loads, number_load, list_load, joined_load, Load, total as load_total, after as load_after, limit};
 ghost use Rattle.norm_form.specs.Cut.{IsCut};
-ghost use Rattle.lin_truth.specs.Term.{div_of, plus_of};
 
-use lin_form::{all_constant, is_constant};
+use lin_form::is_constant;
 use lin_term::Memory;
 use lin_truth::{Term, VarSort};
 use sqlite_items::Items;
@@ -107,6 +105,30 @@ fn choice_share(node: u64, test: u64) -> Share
     }
 }
 
+/// What an absolute value adds: a choice by a literal.
+fn absolute_share(node: u64) -> Share
+    requires { node ≤ 1 }
+    ensures cut { IsCut result (record { own = 5 * node; leaves = 2 }) }
+    ensures limited { (result.own ≤ limit) × (result.leaves ≤ limit) }
+{
+    Share {
+        own: 5 * node,
+        leaves: 2,
+    }
+}
+
+/// What a whole quotient or a remainder adds: two bounds, their conjunction and a variable.
+fn division_share(rate: Rate) -> Share
+    requires { (rate.node ≤ 1) × (rate.binder ≤ 1) }
+    ensures cut { IsCut result (record { own = 3 * rate.node + rate.binder; leaves = 1 }) }
+    ensures limited { (result.own ≤ limit) × (result.leaves ≤ limit) }
+{
+    Share {
+        own: 3 * rate.node + rate.binder,
+        leaves: 1,
+    }
+}
+
 /// One formula or the other.
 fn either(node: u64, x: u64, y: u64) -> u64
     requires { (node ≤ 1) × (x ≤ limit) × (y ≤ limit) }
@@ -123,13 +145,6 @@ fn own_node(n: usize, node: u64) -> u64
     ensures limited { result ≤ 1 }
 {
     if n == 1 { 0 } else { node }
-}
-
-/// Whether both terms are constant.
-fn both_constant(a: &Term, b: &Term) -> bool
-    ensures { result ≡ is_constant_tree (tree_of a.now) && is_constant_tree (tree_of b.now) }
-{
-    is_constant(a) && is_constant(b)
 }
 
 /// A formula under n bound variables.
@@ -192,41 +207,13 @@ pub fn formula_count(
             let share = number_count(alloc, t.get(), rate, scope)?;
             Ok(total(share, rate.node))
         }
-        Term::Less(a, b) => {
-            let x = number_count(alloc, a.get(), rate, scope)?;
-            let y = number_count(alloc, b.get(), rate, scope)?;
-            Ok(total(after(x, y), rate.node))
+        Term::Less(a, b) | Term::AtMost(a, b) | Term::Greater(a, b) | Term::AtLeast(a, b) => {
+            compared(alloc, a.get(), b.get(), rate.node, rate, scope)
         }
-        Term::AtMost(a, b) => {
-            let x = number_count(alloc, a.get(), rate, scope)?;
-            let y = number_count(alloc, b.get(), rate, scope)?;
-            Ok(total(after(x, y), rate.node))
+        Term::Equal(a, b) if !is_formula(a.get(), scope) => {
+            compared(alloc, a.get(), b.get(), 3 * rate.node, rate, scope)
         }
-        Term::Greater(a, b) => {
-            let x = number_count(alloc, a.get(), rate, scope)?;
-            let y = number_count(alloc, b.get(), rate, scope)?;
-            Ok(total(after(x, y), rate.node))
-        }
-        Term::AtLeast(a, b) => {
-            let x = number_count(alloc, a.get(), rate, scope)?;
-            let y = number_count(alloc, b.get(), rate, scope)?;
-            Ok(total(after(x, y), rate.node))
-        }
-        Term::Equal(a, b) => {
-            if is_formula(a.get(), scope) {
-                let x = formula_count(alloc, a.get(), rate, scope)?;
-                let y = formula_count(alloc, b.get(), rate, scope)?;
-                return Ok(both_ways(rate.node, x, y));
-            }
-            let x = number_count(alloc, a.get(), rate, scope)?;
-            let y = number_count(alloc, b.get(), rate, scope)?;
-            Ok(total(after(x, y), 3 * rate.node))
-        }
-        Term::Xor(a, b) => {
-            let x = formula_count(alloc, a.get(), rate, scope)?;
-            let y = formula_count(alloc, b.get(), rate, scope)?;
-            Ok(both_ways(rate.node, x, y))
-        }
+        Term::Equal(a, b) | Term::Xor(a, b) => twice(alloc, a.get(), b.get(), rate, scope),
         Term::Implies(a, b) => {
             let x = formula_count(alloc, a.get(), rate, scope)?;
             let y = formula_count(alloc, b.get(), rate, scope)?;
@@ -238,23 +225,41 @@ pub fn formula_count(
             let y = formula_count(alloc, b.get(), rate, scope)?;
             Ok(choice(rate.node, test, x, y))
         }
-        Term::And(ts) => joined(alloc, ts.as_slice(), rate, scope),
-        Term::Or(ts) => joined(alloc, ts.as_slice(), rate, scope),
-        Term::Forall(sorts, t) => quantified(alloc, sorts.as_slice(), t.get(), rate, scope),
-        Term::Exists(sorts, t) => quantified(alloc, sorts.as_slice(), t.get(), rate, scope),
-        Term::True => Ok(rate.node),
-        Term::False => Ok(rate.node),
-        Term::Number { .. } => Ok(rate.node),
-        Term::Var(_) => Ok(rate.node),
-        Term::Negative(_) => Ok(rate.node),
-        Term::Abs(_) => Ok(rate.node),
-        Term::Minus(_, _) => Ok(rate.node),
-        Term::Quotient(_, _) => Ok(rate.node),
-        Term::Div(_, _) => Ok(rate.node),
-        Term::Mod(_, _) => Ok(rate.node),
-        Term::Plus(_) => Ok(rate.node),
-        Term::Times(_) => Ok(rate.node),
+        Term::And(ts) | Term::Or(ts) => joined(alloc, ts.as_slice(), rate, scope),
+        Term::Forall(sorts, t) | Term::Exists(sorts, t) => {
+            quantified(alloc, sorts.as_slice(), t.get(), rate, scope)
+        }
+        _ => Ok(rate.node),
     }
+}
+
+/// A literal over two numbers, which counts n nodes.
+#[cycle(count)]
+fn compared(
+    alloc: Global,
+    a: &Term,
+    b: &Term,
+    n: u64,
+    rate: Rate,
+    scope: &[VarSort],
+) -> Result<u64, Memory>
+    requires { (n ≤ 3) × (rate.node ≤ 1) × (rate.binder ≤ 1) }
+    ensures { IfOk result (λ count. count ≡ min limit (load_total (load_after (number_load (tree_of a.now) rate scope.now) (number_load (tree_of b.now) rate scope.now)) n)) }
+{
+    let x = number_count(alloc, a, rate, scope)?;
+    let y = number_count(alloc, b, rate, scope)?;
+    Ok(total(after(x, y), n))
+}
+
+/// Two formulas of which each stands there twice.
+#[cycle(count)]
+fn twice(alloc: Global, a: &Term, b: &Term, rate: Rate, scope: &[VarSort]) -> Result<u64, Memory>
+    requires { (rate.node ≤ 1) × (rate.binder ≤ 1) }
+    ensures { IfOk result (λ n. n ≡ min limit (3 * rate.node + 2 * (load (tree_of a.now) rate scope.now + load (tree_of b.now) rate scope.now))) }
+{
+    let x = formula_count(alloc, a, rate, scope)?;
+    let y = formula_count(alloc, b, rate, scope)?;
+    Ok(both_ways(rate.node, x, y))
 }
 
 /// A conjunction or disjunction: one child is that child.
@@ -294,44 +299,26 @@ fn number_count(alloc: Global, term: &Term, rate: Rate, scope: &[VarSort]) -> Re
     requires { (rate.node ≤ 1) × (rate.binder ≤ 1) }
     ensures { IfOk result (λ s. IsCut s (number_load (tree_of term.now) rate scope.now)) }
 {
+    if is_constant(term) {
+        return Ok(PLAIN);
+    }
     match term {
-        Term::Number { .. } => Ok(PLAIN),
         Term::Var(_) => Ok(PLAIN),
-        Term::Negative(t) => {
-            if is_constant(t.get()) {
-                return Ok(PLAIN);
-            }
-            number_count(alloc, t.get(), rate, scope)
-        }
+        Term::Negative(t) => number_count(alloc, t.get(), rate, scope),
+        Term::Quotient(t, _) => number_count(alloc, t.get(), rate, scope),
         Term::Abs(t) => {
-            if is_constant(t.get()) {
-                return Ok(PLAIN);
-            }
             let x = number_count(alloc, t.get(), rate, scope)?;
-            Ok(after(
-                x,
-                Share {
-                    own: 5 * rate.node,
-                    leaves: 2,
-                },
-            ))
+            Ok(after(x, absolute_share(rate.node)))
+        }
+        Term::Div(t, _) | Term::Mod(t, _) => {
+            let x = number_count(alloc, t.get(), rate, scope)?;
+            Ok(after(x, division_share(rate)))
         }
         Term::Minus(a, b) => {
-            if both_constant(a.get(), b.get()) {
-                return Ok(PLAIN);
-            }
             let x = number_count(alloc, a.get(), rate, scope)?;
             let y = number_count(alloc, b.get(), rate, scope)?;
             Ok(after(x, y))
         }
-        Term::Quotient(a, b) => {
-            if both_constant(a.get(), b.get()) {
-                return Ok(PLAIN);
-            }
-            number_count(alloc, a.get(), rate, scope)
-        }
-        Term::Div(a, b) => divided(alloc, a.get(), b.get(), rate, scope),
-        Term::Mod(a, b) => divided(alloc, a.get(), b.get(), rate, scope),
         Term::Ite(c, a, b) => {
             let x = number_count(alloc, a.get(), rate, scope)?;
             let y = number_count(alloc, b.get(), rate, scope)?;
@@ -347,40 +334,12 @@ fn number_count(alloc: Global, term: &Term, rate: Rate, scope: &[VarSort]) -> Re
     }
 }
 
-/// A whole quotient or remainder.
-#[cycle(count)]
-fn divided(
-    alloc: Global,
-    a: &Term,
-    b: &Term,
-    rate: Rate,
-    scope: &[VarSort],
-) -> Result<Share, Memory>
-    requires { (rate.node ≤ 1) × (rate.binder ≤ 1) }
-    ensures { IfOk result (λ s. IsCut s (number_load (div_of (tree_of a.now) (tree_of b.now)) rate scope.now)) }
-{
-    if both_constant(a, b) {
-        return Ok(PLAIN);
-    }
-    let x = number_count(alloc, a, rate, scope)?;
-    Ok(after(
-        x,
-        Share {
-            own: 3 * rate.node + rate.binder,
-            leaves: 1,
-        },
-    ))
-}
-
-/// A sum or a product.
+/// The numbers of a sum or a product, one after the other.
 #[cycle(count)]
 fn listed(alloc: Global, parts: &[Term], rate: Rate, scope: &[VarSort]) -> Result<Share, Memory>
     requires { (rate.node ≤ 1) × (rate.binder ≤ 1) }
-    ensures { IfOk result (λ s. IsCut s (number_load (plus_of (trees_of parts.now)) rate scope.now)) }
+    ensures { IfOk result (λ s. IsCut s (list_load (trees_of parts.now) rate scope.now)) }
 {
-    if all_constant(parts) {
-        return Ok(PLAIN);
-    }
     let mut all = PLAIN;
     for part in parts {
         let share = number_count(alloc, part, rate, scope)?;

@@ -1,64 +1,15 @@
 use Rattle.std.proofs.Common.{ℕ, ◌≡◌, ◌+◌, ◌*◌, ◌∙◌, ap, sym, subst, arith, drop, length, List}
-use Rattle.std.specs.Prelude.{min, Bool, false}
+use Rattle.std.specs.Prelude.{min}
 use Rattle.lin_truth.specs.declared.Term.{Term as Written}
-use Rattle.lin_truth.specs.Truth.{is_formula}
-use Rattle.lin_truth.specs.Constant.{is_constant}
 use Rattle.lin_truth.specs.Term.{Term, Terms}
 use Rattle.lin_truth.specs.View.{tree_of, trees_of}
-use Rattle.lin_form.proofs.Trees.{tree-Less, tree-AtMost, tree-Greater, tree-AtLeast, tree-Equal, tree-Abs, tree-Ite, trees_more, trees_all}
-use Rattle.norm_form.specs.Load.{Load, load, loads, number_load, list_load, sum_load, joined_load, after, total, load_if, choose_load, limit}
+use Rattle.lin_form.proofs.Trees.{tree-Abs, tree-Ite, trees_more, trees_all}
+use Rattle.norm_form.specs.Load.{Load, load, loads, number_load, list_load, sum_load, joined_load, after, no_number, limit}
 use Rattle.norm_form.specs.Cut.{IsCut}
 use Rattle.norm_form.proofs.Cutting.{joined_is, loads_length, listed_step, limited_is}
+use Rattle.norm_form.proofs.Remaining.{node_load, formula_load}
+use Rattle.norm_form.proofs.Plain.{absolute_load, divided_load}
 use Rattle.norm_form.proofs.count.+count.Goals as goal
-
-pub formula_count-returns-in_ok-y-in-Less : goal.formula_count-returns-in_ok-y-in-Less
-formula_count-returns-in_ok-y-in-Less t c =
-    let r = c.args.rate in
-    let s = c.args.scope.now in
-    let x : Load = number_load (tree_of c.get-in-Less.result.now) r s in
-    let y : Load = number_load (tree_of c.get-in-Less-2.result.now) r s in
-    c.total-in-Less.ensures.cut (after x y) (c.after.ensures.cut x y c.in_ok-x-in-Less.ensures c.in_ok-y-in-Less.ensures)
-    ∙ ap (λ (u : Term). min limit (load u r s)) (sym (tree-Less c.get-in-Less.result.now c.get-in-Less-2.result.now c.in-Less.a c.in-Less.b c.args.term.now c.get-in-Less.ensures c.get-in-Less-2.ensures c.in-Less.is))
-
-pub formula_count-returns-in_ok-y-in-AtMost : goal.formula_count-returns-in_ok-y-in-AtMost
-formula_count-returns-in_ok-y-in-AtMost t c =
-    let r = c.args.rate in
-    let s = c.args.scope.now in
-    let x : Load = number_load (tree_of c.get-in-AtMost.result.now) r s in
-    let y : Load = number_load (tree_of c.get-in-AtMost-2.result.now) r s in
-    c.total-in-AtMost.ensures.cut (after x y) (c.after-in-AtMost.ensures.cut x y c.in_ok-x-in-AtMost.ensures c.in_ok-y-in-AtMost.ensures)
-    ∙ ap (λ (u : Term). min limit (load u r s)) (sym (tree-AtMost c.get-in-AtMost.result.now c.get-in-AtMost-2.result.now c.in-AtMost.a c.in-AtMost.b c.args.term.now c.get-in-AtMost.ensures c.get-in-AtMost-2.ensures c.in-AtMost.is))
-
-pub formula_count-returns-in_ok-y-in-Greater : goal.formula_count-returns-in_ok-y-in-Greater
-formula_count-returns-in_ok-y-in-Greater t c =
-    let r = c.args.rate in
-    let s = c.args.scope.now in
-    let x : Load = number_load (tree_of c.get-in-Greater.result.now) r s in
-    let y : Load = number_load (tree_of c.get-in-Greater-2.result.now) r s in
-    c.total-in-Greater.ensures.cut (after x y) (c.after-in-Greater.ensures.cut x y c.in_ok-x-in-Greater.ensures c.in_ok-y-in-Greater.ensures)
-    ∙ ap (λ (u : Term). min limit (load u r s)) (sym (tree-Greater c.get-in-Greater.result.now c.get-in-Greater-2.result.now c.in-Greater.a c.in-Greater.b c.args.term.now c.get-in-Greater.ensures c.get-in-Greater-2.ensures c.in-Greater.is))
-
-pub formula_count-returns-in_ok-y-in-AtLeast : goal.formula_count-returns-in_ok-y-in-AtLeast
-formula_count-returns-in_ok-y-in-AtLeast t c =
-    let r = c.args.rate in
-    let s = c.args.scope.now in
-    let x : Load = number_load (tree_of c.get-in-AtLeast.result.now) r s in
-    let y : Load = number_load (tree_of c.get-in-AtLeast-2.result.now) r s in
-    c.total-in-AtLeast.ensures.cut (after x y) (c.after-in-AtLeast.ensures.cut x y c.in_ok-x-in-AtLeast.ensures c.in_ok-y-in-AtLeast.ensures)
-    ∙ ap (λ (u : Term). min limit (load u r s)) (sym (tree-AtLeast c.get-in-AtLeast.result.now c.get-in-AtLeast-2.result.now c.in-AtLeast.a c.in-AtLeast.b c.args.term.now c.get-in-AtLeast.ensures c.get-in-AtLeast-2.ensures c.in-AtLeast.is))
-
-pub formula_count-returns-in_ok-y-in-Equal-2 : goal.formula_count-returns-in_ok-y-in-Equal-2
-formula_count-returns-in_ok-y-in-Equal-2 t c =
-    let r = c.args.rate in
-    let s = c.args.scope.now in
-    let A : Term = tree_of c.get-in-Equal-2.result.now in
-    let B : Term = tree_of c.get-in-Equal-3.result.now in
-    let x : Load = number_load A r s in
-    let y : Load = number_load B r s in
-    let e : is_formula A s ≡ false = ap (λ (w : Written). is_formula (tree_of w) s) (c.get-in-Equal-2.ensures ∙ sym c.get-in-Equal.ensures) ∙ sym c.if-is_formula.ensures in
-    c.total-in-Equal.ensures.cut (after x y) (c.after-in-Equal.ensures.cut x y c.in_ok-x-in-Equal-2.ensures c.in_ok-y-in-Equal-2.ensures)
-    ∙ ap (λ (b : Bool). min limit (choose_load b (3 * r.node + 2 * (load A r s + load B r s)) (total (after x y) (3 * r.node)))) (sym e)
-    ∙ ap (λ (u : Term). min limit (load u r s)) (sym (tree-Equal c.get-in-Equal-2.result.now c.get-in-Equal-3.result.now c.in-Equal.a c.in-Equal.b c.args.term.now c.get-in-Equal-2.ensures c.get-in-Equal-3.ensures c.in-Equal.is))
 
 pub joined-returns : goal.joined-returns
 joined-returns t c =
@@ -90,18 +41,6 @@ listed-loop-part-preserved t c =
     (ap (λ (z : Load). min limit (all.leaves * z.leaves)) (sym p) ∙ c.loop-part.invariant.1) in
     (step.0, step.1, c.after-all.ensures.limited.0, c.after-all.ensures.limited.1)
 
-pub number_count-returns-in_ok-x-in-Abs : goal.number_count-returns-in_ok-x-in-Abs
-number_count-returns-in_ok-x-in-Abs t c =
-    let r = c.args.rate in
-    let s = c.args.scope.now in
-    let A : Term = tree_of c.get-in-Abs-2.result.now in
-    let x : Load = number_load A r s in
-    let k : Load = record { own = 5 * r.node; leaves = 2 } in
-    let e : is_constant A ≡ false = ap (λ (w : Written). is_constant (tree_of w)) (c.get-in-Abs-2.ensures ∙ sym c.get-in-Abs.ensures) ∙ sym c.if-is_constant-2.ensures in
-    let p : number_load (tree_of c.args.term.now) r s ≡ after x k =
-    ap (λ (u : Term). number_load u r s) (tree-Abs c.get-in-Abs-2.result.now c.in-Abs.t c.args.term.now c.get-in-Abs-2.ensures c.in-Abs.is) ∙ ap (λ (b : Bool). load_if b (after x k)) e in
-    subst (λ (z : Load). IsCut c.after.result z) (sym p) (c.after.ensures.cut x k c.in_ok-x-in-Abs.ensures (omega (arith, c.requires.0), omega arith))
-
 pub number_count-returns-in_ok-test-in-Ite : goal.number_count-returns-in_ok-test-in-Ite
 number_count-returns-in_ok-test-in-Ite t c =
     let r = c.args.rate in
@@ -117,13 +56,43 @@ number_count-returns-in_ok-test-in-Ite t c =
     subst (λ (z : Load). IsCut c.after-in-Ite-2.result z) (sym p)
     (c.after-in-Ite-2.ensures.cut x (after y k) c.in_ok-x-in-Ite.ensures (c.after-in-Ite.ensures.cut y k c.in_ok-y-in-Ite.ensures (c.choice_share.ensures.cut (load C r s) c.in_ok-test-in-Ite.ensures)))
 
-pub divided-returns : goal.divided-returns
-divided-returns t c =
+pub compared-returns : goal.compared-returns
+compared-returns t c =
     let r = c.args.rate in
     let s = c.args.scope.now in
-    let A : Term = tree_of c.args.a.now in
-    let B : Term = tree_of c.args.b.now in
+    let x : Load = number_load (tree_of c.args.a.now) r s in
+    let y : Load = number_load (tree_of c.args.b.now) r s in
+    c.total.ensures.cut (after x y) (c.after.ensures.cut x y c.in_ok-x.ensures c.in_ok-y.ensures)
+
+pub formula_count-returns-in_default : goal.formula_count-returns-in_default
+formula_count-returns-in_default t c =
+    let k : c.args.rate.node ≡ min limit c.args.rate.node = omega (arith, c.requires.0) in
+    k ∙ ap (min limit) (sym (node_load c.args.term.now c.args.rate c.args.scope.now c.in_default.not-Not c.in_default.not-Divisible c.in_default.not-Less c.in_default.not-AtMost c.in_default.not-Greater c.in_default.not-AtLeast c.in_default.not-Equal c.in_default.not-Xor c.in_default.not-Implies c.in_default.not-Ite c.in_default.not-And c.in_default.not-Or c.in_default.not-Forall c.in_default.not-Exists))
+
+pub number_count-returns-in_ok-x-in-Abs : goal.number_count-returns-in_ok-x-in-Abs
+number_count-returns-in_ok-x-in-Abs t c =
+    let r = c.args.rate in
+    let s = c.args.scope.now in
+    let A : Term = tree_of c.get-in-Abs.result.now in
     let x : Load = number_load A r s in
+    let k : Load = record { own = 5 * r.node; leaves = 2 } in
+    subst (λ (z : Load). IsCut c.after.result z)
+    (sym (absolute_load (tree_of c.args.term.now) A r s (tree-Abs c.get-in-Abs.result.now c.in-Abs.t c.args.term.now c.get-in-Abs.ensures c.in-Abs.is) (sym c.if-is_constant.ensures)))
+    (c.after.ensures.cut x k c.in_ok-x-in-Abs.ensures c.absolute_share.ensures.cut)
+
+pub number_count-returns-in_default : goal.number_count-returns-in_default
+number_count-returns-in_default t c =
+    let k : c.args.rate.node ≡ min limit c.args.rate.node = omega (arith, c.requires.0) in
+    let e : number_load (tree_of c.args.term.now) c.args.rate c.args.scope.now ≡ no_number c.args.rate =
+    formula_load c.args.term.now c.args.rate c.args.scope.now c.in_default.not-Var c.in_default.not-Negative c.in_default.not-Abs c.in_default.not-Minus c.in_default.not-Quotient c.in_default.not-Div c.in_default.not-Mod c.in_default.not-Ite c.in_default.not-Plus c.in_default.not-Times (sym c.if-is_constant.ensures) in
+    (k ∙ ap (λ (l : Load). min limit l.own) (sym e), ap (λ (l : Load). min limit l.leaves) (sym e))
+
+pub number_count-returns-in_ok-x-in-Div : goal.number_count-returns-in_ok-x-in-Div
+number_count-returns-in_ok-x-in-Div t c =
+    let r = c.args.rate in
+    let s = c.args.scope.now in
+    let A : Written = c.get-in-Div.result.now in
+    let x : Load = number_load (tree_of A) r s in
     let k : Load = record { own = 3 * r.node + r.binder; leaves = 1 } in
-    subst (λ (b : Bool). IsCut c.after.result (load_if b (after x k))) c.if-both_constant.ensures
-    (c.after.ensures.cut x k c.in_ok-x.ensures (omega (arith, c.requires.0, c.requires.1), omega arith))
+    subst (λ (z : Load). IsCut c.after-in-Div.result z) (sym (divided_load c.args.term.now c.in-Div.t A r s c.in-Div.is c.get-in-Div.ensures (sym c.if-is_constant.ensures)))
+    (c.after-in-Div.ensures.cut x k c.in_ok-x-in-Div.ensures c.division_share.ensures.cut)
