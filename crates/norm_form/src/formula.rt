@@ -1,4 +1,5 @@
-//! The walk over a goal's formulas: each becomes its normal form.
+//! The walk over the formulas of a goal's body: each becomes its normal form. With the walk over the numbers it is one cycle, and
+//! native calls go as deep as the body does.
 
 ghost use Rattle.std.specs.Prelude.{true, false};
 ghost use Rattle.lin_truth.specs.View.{tree_of, trees_of};
@@ -58,57 +59,31 @@ fn formula(
             let y = formula(alloc, sort, ctx, b.get(), truth, level);
             both(alloc, !truth, x, y)
         }
-        Term::Ite(c, a, b) => {
-            let test = both_ways(alloc, sort, ctx, c.get(), level);
-            let x = formula(alloc, sort, ctx, a.get(), truth, level);
-            let y = formula(alloc, sort, ctx, b.get(), truth, level);
-            choice_of(alloc, test, x, y)
-        }
         Term::And(ts) => parts(alloc, sort, ctx, ts.as_slice(), truth, truth, level),
         Term::Or(ts) => parts(alloc, sort, ctx, ts.as_slice(), !truth, truth, level),
-        Term::Forall(vs, t) => bound(
-            alloc,
-            sort,
-            ctx,
-            truth,
-            vs.as_slice(),
-            t.get(),
-            truth,
-            level,
-        ),
-        Term::Exists(vs, t) => bound(
-            alloc,
-            sort,
-            ctx,
-            !truth,
-            vs.as_slice(),
-            t.get(),
-            truth,
-            level,
-        ),
-        Term::Equal(_, _) => sameness(alloc, sort, ctx, term, truth, level),
-        Term::Xor(_, _) => sameness(alloc, sort, ctx, term, truth, level),
-        Term::Divisible(_, _) => comparison(alloc, sort, ctx, term, truth, level),
-        Term::Less(_, _) => comparison(alloc, sort, ctx, term, truth, level),
-        Term::AtMost(_, _) => comparison(alloc, sort, ctx, term, truth, level),
-        Term::Greater(_, _) => comparison(alloc, sort, ctx, term, truth, level),
-        Term::AtLeast(_, _) => comparison(alloc, sort, ctx, term, truth, level),
-        Term::False => Ok(closed(alloc, !truth)),
-        Term::Number { .. } => Ok(closed(alloc, !truth)),
-        Term::Negative(_) => Ok(closed(alloc, !truth)),
-        Term::Abs(_) => Ok(closed(alloc, !truth)),
-        Term::Minus(_, _) => Ok(closed(alloc, !truth)),
-        Term::Quotient(_, _) => Ok(closed(alloc, !truth)),
-        Term::Div(_, _) => Ok(closed(alloc, !truth)),
-        Term::Mod(_, _) => Ok(closed(alloc, !truth)),
-        Term::Plus(_) => Ok(closed(alloc, !truth)),
-        Term::Times(_) => Ok(closed(alloc, !truth)),
+        Term::Forall(vs, t) => {
+            let vs = vs.as_slice();
+            bound(alloc, sort, ctx, truth, vs, t.get(), truth, level)
+        }
+        Term::Exists(vs, t) => {
+            let vs = vs.as_slice();
+            bound(alloc, sort, ctx, !truth, vs, t.get(), truth, level)
+        }
+        Term::Equal(_, _) | Term::Xor(_, _) | Term::Ite(_, _, _) => {
+            by_both_ways(alloc, sort, ctx, term, truth, level)
+        }
+        Term::Divisible(_, _)
+        | Term::Less(_, _)
+        | Term::AtMost(_, _)
+        | Term::Greater(_, _)
+        | Term::AtLeast(_, _) => comparison(alloc, sort, ctx, term, truth, level),
+        _ => Ok(closed(alloc, !truth)),
     }
 }
 
-/// The normal form of an equality of formulas or numbers, or of an exclusive or; asked of nothing else.
+/// The normal form of an equality, an exclusive or, or a choice, by both ways of its parts; asked of nothing else.
 #[cycle(walk)]
-fn sameness(
+fn by_both_ways(
     alloc: Global,
     sort: Sort,
     ctx: &[Bound],
@@ -133,6 +108,12 @@ fn sameness(
             let x = both_ways(alloc, sort, ctx, a.get(), level);
             let y = both_ways(alloc, sort, ctx, b.get(), level);
             same_of(alloc, !truth, x, y)
+        }
+        Term::Ite(c, a, b) => {
+            let test = both_ways(alloc, sort, ctx, c.get(), level);
+            let x = formula(alloc, sort, ctx, a.get(), truth, level);
+            let y = formula(alloc, sort, ctx, b.get(), truth, level);
+            choice_of(alloc, test, x, y)
         }
         _ => Err(FormFault::Memory),
     }

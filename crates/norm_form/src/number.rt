@@ -1,5 +1,4 @@
-//! The walk over the numbers of a goal's body: each becomes the cases of its linear form. A sum is a loop over its terms, and
-//! native calls go as deep as the body does.
+//! The walk over the numbers of a goal's body: each becomes the cases of its linear form. A sum is a loop over its terms.
 
 ghost use Rattle.std.specs.Prelude.{◌∷◌, [], ℕ, true, false, Option};
 ghost use Rattle.lin_form.specs.Lin.{Lin};

@@ -255,16 +255,16 @@ formula::comparison-returns-in-AtLeast t c =
     subst (λ (u : Term). IsBuilt (gnorm capped_maker u c.args.sort c.args.truth c.args.ctx.now c.args.level) c.atom-in-AtLeast.result) (sym (tree-AtLeast c.get-in-AtLeast.result.now c.get-in-AtLeast-2.result.now c.in-AtLeast.a c.in-AtLeast.b c.args.term.now c.get-in-AtLeast.ensures c.get-in-AtLeast-2.ensures c.in-AtLeast.is))
     (c.atom-in-AtLeast.ensures (λ k. glin capped_maker (tree_of c.get-in-AtLeast.result.now) c.args.sort c.args.ctx.now c.args.level (λ e x. glin capped_maker (tree_of c.get-in-AtLeast-2.result.now) c.args.sort c.args.ctx.now e (λ f y. capped_maker.formed (stepped step_kinds.Minus x y ∷ []) (k f (stepped step_kinds.Minus x y))))) (c.second-z-in-AtLeast.ensures (λ k. glin capped_maker (tree_of c.get-in-AtLeast.result.now) c.args.sort c.args.ctx.now c.args.level k) c.number-x-in-AtLeast.ensures))
 
-pub formula::sameness-returns-else-is_formula_in : goal.formula::sameness-returns-else-is_formula_in
-formula::sameness-returns-else-is_formula_in t c =
+pub formula::by_both_ways-returns-else-is_formula_in : goal.formula::by_both_ways-returns-else-is_formula_in
+formula::by_both_ways-returns-else-is_formula_in t c =
     equal_number (tree_of c.args.term.now) (tree_of c.get-in-Equal.result.now) (tree_of c.get-in-Equal-2.result.now) c.args.sort c.args.truth c.args.ctx.now c.args.level c.atom.result
     (tree-Equal c.get-in-Equal.result.now c.get-in-Equal-2.result.now c.in-Equal.a c.in-Equal.b c.args.term.now c.get-in-Equal.ensures c.get-in-Equal-2.ensures c.in-Equal.is)
     (ap (λ (w : Written). is_formula (tree_of w) (map bound_sort c.args.ctx.now)) (c.get-in-Equal.ensures ∙ sym c.get.ensures) ∙ sym c.if-is_formula_in.ensures)
     (c.atom.ensures (λ k. glin capped_maker (tree_of c.get-in-Equal.result.now) c.args.sort c.args.ctx.now c.args.level (λ e x. glin capped_maker (tree_of c.get-in-Equal-2.result.now) c.args.sort c.args.ctx.now e (λ f y. capped_maker.formed (stepped step_kinds.Minus x y ∷ []) (k f (stepped step_kinds.Minus x y)))))
     (c.second-z.ensures (λ k. glin capped_maker (tree_of c.get-in-Equal.result.now) c.args.sort c.args.ctx.now c.args.level k) c.number-x.ensures))
 
-pub formula::sameness-returns-then-is_formula_in : goal.formula::sameness-returns-then-is_formula_in
-formula::sameness-returns-then-is_formula_in t c =
+pub formula::by_both_ways-returns-then-is_formula_in : goal.formula::by_both_ways-returns-then-is_formula_in
+formula::by_both_ways-returns-then-is_formula_in t c =
     equal_truth (tree_of c.args.term.now) (tree_of c.in-Equal.a) (tree_of c.in-Equal.b) c.args.sort c.args.truth c.args.ctx.now c.args.level c.same_of.result
     (tree-Equal c.in-Equal.a c.in-Equal.b c.in-Equal.a c.in-Equal.b c.args.term.now refl refl c.in-Equal.is)
     (ap (λ (w : Written). is_formula (tree_of w) (map bound_sort c.args.ctx.now)) (sym c.get.ensures) ∙ sym c.if-is_formula_in.ensures)
@@ -274,8 +274,8 @@ formula::sameness-returns-then-is_formula_in t c =
     (subst (λ (w : Written). IsBuilt (gnorm capped_maker (tree_of w) c.args.sort true c.args.ctx.now c.args.level) c.both_ways-y.result.yes) c.get-then-is_formula_in-2.ensures c.both_ways-y.ensures.yes)
     (subst (λ (w : Written). IsBuilt (gnorm capped_maker (tree_of w) c.args.sort false c.args.ctx.now c.args.level) c.both_ways-y.result.no) c.get-then-is_formula_in-2.ensures c.both_ways-y.ensures.no))
 
-pub formula::sameness-returns-in-Xor : goal.formula::sameness-returns-in-Xor
-formula::sameness-returns-in-Xor t c =
+pub formula::by_both_ways-returns-in-Xor : goal.formula::by_both_ways-returns-in-Xor
+formula::by_both_ways-returns-in-Xor t c =
     subst (λ (u : Term). IsBuilt (gnorm capped_maker u c.args.sort c.args.truth c.args.ctx.now c.args.level) c.same_of-in-Xor.result) (sym (tree-Xor c.in-Xor.a c.in-Xor.b c.in-Xor.a c.in-Xor.b c.args.term.now refl refl c.in-Xor.is))
     (c.same_of-in-Xor.ensures (gnorm capped_maker (tree_of c.in-Xor.a) c.args.sort true c.args.ctx.now c.args.level) (gnorm capped_maker (tree_of c.in-Xor.a) c.args.sort false c.args.ctx.now c.args.level) (gnorm capped_maker (tree_of c.in-Xor.b) c.args.sort true c.args.ctx.now c.args.level) (gnorm capped_maker (tree_of c.in-Xor.b) c.args.sort false c.args.ctx.now c.args.level)
     (subst (λ (w : Written). IsBuilt (gnorm capped_maker (tree_of w) c.args.sort true c.args.ctx.now c.args.level) c.both_ways-x-in-Xor.result.yes) c.get-in-Xor.ensures c.both_ways-x-in-Xor.ensures.yes)
@@ -288,14 +288,14 @@ formula::formula-returns-in-Implies t c =
     subst (λ (u : Term). IsBuilt (gnorm capped_maker u c.args.sort c.args.truth c.args.ctx.now c.args.level) c.both.result) (sym (tree-Implies c.get-in-Implies.result.now c.get-in-Implies-2.result.now c.in-Implies.a c.in-Implies.b c.args.term.now c.get-in-Implies.ensures c.get-in-Implies-2.ensures c.in-Implies.is))
     (c.both.ensures (gnorm capped_maker (tree_of c.get-in-Implies.result.now) c.args.sort (not c.args.truth) c.args.ctx.now c.args.level) (gnorm capped_maker (tree_of c.get-in-Implies-2.result.now) c.args.sort c.args.truth c.args.ctx.now c.args.level) c.formula-x.ensures c.formula-y.ensures)
 
-pub formula::formula-returns-in-Ite : goal.formula::formula-returns-in-Ite
-formula::formula-returns-in-Ite t c =
+pub formula::by_both_ways-returns-in-Ite : goal.formula::by_both_ways-returns-in-Ite
+formula::by_both_ways-returns-in-Ite t c =
     subst (λ (u : Term). IsBuilt (gnorm capped_maker u c.args.sort c.args.truth c.args.ctx.now c.args.level) c.choice_of.result) (sym (tree-Ite c.in-Ite.c c.in-Ite.a c.in-Ite.b c.in-Ite.c c.in-Ite.a c.in-Ite.b c.args.term.now refl refl refl c.in-Ite.is))
     (c.choice_of.ensures (gnorm capped_maker (tree_of c.in-Ite.c) c.args.sort true c.args.ctx.now c.args.level) (gnorm capped_maker (tree_of c.in-Ite.c) c.args.sort false c.args.ctx.now c.args.level) (gnorm capped_maker (tree_of c.in-Ite.a) c.args.sort c.args.truth c.args.ctx.now c.args.level) (gnorm capped_maker (tree_of c.in-Ite.b) c.args.sort c.args.truth c.args.ctx.now c.args.level)
     (subst (λ (w : Written). IsBuilt (gnorm capped_maker (tree_of w) c.args.sort true c.args.ctx.now c.args.level) c.both_ways-test.result.yes) c.get-in-Ite.ensures c.both_ways-test.ensures.yes)
     (subst (λ (w : Written). IsBuilt (gnorm capped_maker (tree_of w) c.args.sort false c.args.ctx.now c.args.level) c.both_ways-test.result.no) c.get-in-Ite.ensures c.both_ways-test.ensures.no)
-    (subst (λ (w : Written). IsBuilt (gnorm capped_maker (tree_of w) c.args.sort c.args.truth c.args.ctx.now c.args.level) c.formula-x-in-Ite.result) c.get-in-Ite-2.ensures c.formula-x-in-Ite.ensures)
-    (subst (λ (w : Written). IsBuilt (gnorm capped_maker (tree_of w) c.args.sort c.args.truth c.args.ctx.now c.args.level) c.formula-y-in-Ite.result) c.get-in-Ite-3.ensures c.formula-y-in-Ite.ensures))
+    (subst (λ (w : Written). IsBuilt (gnorm capped_maker (tree_of w) c.args.sort c.args.truth c.args.ctx.now c.args.level) c.formula-x.result) c.get-in-Ite-2.ensures c.formula-x.ensures)
+    (subst (λ (w : Written). IsBuilt (gnorm capped_maker (tree_of w) c.args.sort c.args.truth c.args.ctx.now c.args.level) c.formula-y.result) c.get-in-Ite-3.ensures c.formula-y.ensures))
 
 pub number::pair_of-returns : goal.number::pair_of-returns
 number::pair_of-returns t c =
