@@ -42,7 +42,8 @@ fn checked(
 
 /// The elimination of the variable from the cube of a bare context: its cases are those that are left to be closed.
 /// None exactly where the sort is Rat, the context is not bare, the variable is not below `nodes`, there are not
-/// `count` cases, or a number of the elimination is past the cap. It refuses only for memory.
+/// `count` cases, or a number of the elimination is past the cap. The literals of the cube are primitive, and a modulus
+/// is in `1..=CAP`. It refuses only for memory.
 pub fn least_of(
     alloc: Global,
     sort: Sort,

@@ -130,7 +130,8 @@ fn is_same_literal(a: &Lit, b: &Lit) -> bool
     }
 }
 
-/// Whether the literal is of the sort and its own primitive form. It refuses only for memory.
+/// Whether the literal is of the sort and its own primitive form; its numbers are within the cap. It refuses only for
+/// memory.
 pub fn is_primitive_literal(alloc: Global, sort: Sort, lit: &Lit) -> Result<bool, Memory>
     requires kept { first_past (lit_numbers lit.now) ≡ None }
     ensures { IfOk result (λ b. b ≡ is_primitive sort lit.now) }

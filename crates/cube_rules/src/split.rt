@@ -11,7 +11,8 @@ use lin_term::{Lit, Memory, Short, Sort, negate};
 use std::alloc::Global;
 
 /// A copy of the literal, and its negation in primitive form. None exactly where the literal is not primitive, a
-/// variable is not below `nodes`, or the negation has a number past the cap. It refuses only for memory.
+/// variable is not below `nodes`, or the negation has a number past the cap. The literal's own numbers are within it. It
+/// refuses only for memory.
 pub fn split_in_two(
     alloc: Global,
     sort: Sort,

@@ -70,7 +70,8 @@ pub fn rule_of_step(step: &Step) -> Rule
     }
 }
 
-/// Whether each number of the line is within the cap of 2^52 in size; the divisor of a sum, within 2^105.
+/// Whether the counts of cases, the multipliers of a sum and the numbers of a literal are within the cap of 2^52 in size,
+/// and the divisor of a sum within 2^105.
 pub fn within(step: &Step) -> bool
     ensures { result ≡ is_within step.now }
 {

@@ -19,7 +19,8 @@ fn are_summands(p: i64, a: &Lit, q: i64, b: &Lit, g: i128) -> bool
 }
 
 /// The primitive form of p times a plus q times b. None exactly where a literal is no inequality, a multiplier or g is
-/// below 1, g is not the divisor of the sum, or the result has a number past the cap. It refuses only for memory.
+/// below 1, g is not the divisor of the sum, or the result has a number past the cap. The literals are primitive; p and q
+/// are within the cap, and g is at most 2^105 in size. It refuses only for memory.
 pub fn summed(
     alloc: Global,
     sort: Sort,

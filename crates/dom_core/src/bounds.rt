@@ -5,7 +5,7 @@ ghost use Rattle.dom_core.specs.Elimination.{is_lower, is_upper};
 
 use lin_term::{Lit, coefficient_at};
 
-/// An inequality with a positive coefficient at the variable: it bounds it from below.
+/// Whether the literal is an inequality with a positive coefficient at the variable: it bounds it from below.
 pub fn is_lower(lit: &Lit, var: u32) -> bool
     ensures { result ≡ is_lower var lit.now }
 {
@@ -15,7 +15,7 @@ pub fn is_lower(lit: &Lit, var: u32) -> bool
     }
 }
 
-/// An inequality with a negative coefficient at the variable: it bounds it from above.
+/// Whether the literal is an inequality with a negative coefficient at the variable: it bounds it from above.
 pub fn is_upper(lit: &Lit, var: u32) -> bool
     ensures { result ≡ is_upper var lit.now }
 {

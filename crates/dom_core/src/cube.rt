@@ -60,7 +60,8 @@ impl Cube {
     }
 }
 
-/// Adds a literal to the others where it could be made, and else says why it could not.
+/// Adds a literal to the others where it could be made, and else says why it could not. Besides it refuses only for
+/// memory; a refusal leaves the others as they are.
 pub fn add_made(out: &mut Items<Lit>, made: Result<Lit, Short<Wide>>) -> Result<(), Short<Wide>>
     ensures adds { (l : a_literal) → Capped (lit_numbers l) l made → AddsLit out.old out.new l result }
     ensures err { OnErr result (out.new ≡ out.old) }

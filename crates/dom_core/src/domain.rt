@@ -26,16 +26,17 @@ pub trait Domain {
     ghost SORT: { Sort };
 
     /// The two literals that fix a move's value at a node, in primitive form, with `names[i]` for variable i of the move.
-    /// The names ascend and are below the node, all below 2^20, and the move and its definition are within the cap. It
-    /// refuses only for memory.
+    /// The names ascend and are below the node, which is below 2^20; the move's variables are below their count, and the
+    /// move is in lowest form and with its definition within the cap. It refuses only for memory.
     fn definition(alloc: Global, term: &Move, node: u32, names: &[u32]) -> Result<Defined, Memory>
         requires { IsDefinable SORT term.now names.now node }
         ensures upper { IfOk result (λ d. d.upper ≡ upper_literal SORT (rename_move names.now term.now) node) }
         ensures lower { IfOk result (λ d. d.lower ≡ lower_literal SORT (rename_move names.now term.now) node) };
 
     /// The cubes of which one has a solution exactly where the cube has one, without the variable: over the rationals one,
-    /// by Fourier and Motzkin; over the integers the cases of Cooper 1972. It refuses exactly where a number of the
-    /// elimination passes the cap, and names the first.
+    /// by Fourier and Motzkin; over the integers the cases of Cooper 1972. The literals of the cube are primitive, and a
+    /// modulus is in `1..=CAP`. Wide names the first number of the elimination past the cap; where there is none, it
+    /// refuses only for memory.
     fn eliminate(alloc: Global, cube: &Cube, var: u32) -> Result<Items<Cube>, Short<Wide>>
         requires { IsPrimitiveCube SORT cube.now }
         ensures { Capped (elimination_numbers SORT cube.now var) (eliminated SORT cube.now var) result };

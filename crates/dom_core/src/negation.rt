@@ -25,7 +25,8 @@ fn wide_literal(alloc: Global, sort: Sort, lit: &Lit) -> Result<Option<i128>, Me
     }
 }
 
-/// The first number past the cap of the literals' negations, literals from left to right; refuses only for memory.
+/// The first number past the cap of the negations of primitive literals, from left to right; None exactly where there
+/// is none. Refuses only for memory.
 #[cycle(wide)]
 pub fn wide_negation(alloc: Global, sort: Sort, matrix: &Matrix) -> Result<Option<i128>, Memory>
     requires primitive { IsPrimitiveMatrix (matrix_of matrix.now) sort }
@@ -71,7 +72,7 @@ fn negated_literal(alloc: Global, sort: Sort, lit: &Lit) -> Result<Lit, Memory>
     }
 }
 
-/// The negation of a matrix, whose literals' negations are within the cap; refuses only for memory.
+/// The negation of a matrix of primitive literals whose negations are within the cap; refuses only for memory.
 #[cycle(negation)]
 pub fn negated(alloc: Global, sort: Sort, matrix: &Matrix) -> Result<Matrix, Memory>
     requires primitive { IsPrimitiveMatrix (matrix_of matrix.now) sort }

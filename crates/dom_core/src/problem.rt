@@ -40,8 +40,8 @@ impl<D: Domain> Model for Problem<D> {
 }
 
 impl<D: Domain> Problem<D> {
-    /// The problem of at most 1,024 variables and a matrix of primitive literals over them. Wide comes exactly where
-    /// the negation of a literal has a number past the cap: the first such number, literals from left to right.
+    /// The problem of at most 1,024 variables and a matrix of primitive literals over them. Wide names the first number
+    /// past the cap of a literal's negation, literals from left to right; where there is none, it refuses only for memory.
     pub fn make(
         alloc: Global,
         prefix: Items<Quant>,
@@ -58,7 +58,8 @@ impl<D: Domain> Problem<D> {
         }
     }
 
-    /// The problem of parts that meet all that the type keeps.
+    /// The problem of parts that meet all that the type keeps: at most 1,024 variables, and each literal primitive, its
+    /// variables below the length of the prefix, its negation within the cap.
     pub fn from_parts(prefix: Items<Quant>, matrix: Matrix) -> Problem<D>
         requires { IsProblem D.SORT (record { prefix = prefix; matrix = matrix }) }
         ensures { result ≡ record { prefix = prefix; matrix = matrix } }

@@ -40,8 +40,9 @@ impl Model for Elimination {
 }
 
 impl Elimination {
-    /// Counts the cases and builds none. It refuses exactly where a partial delta or a partial sum of the counts passes
-    /// the cap, and names the first; the deltas come before the sums.
+    /// The elimination of the variable from a cube of primitive literals of integers with moduli in `1..=CAP`. It refuses
+    /// exactly where a partial period of the divisibilities or a partial sum of the counts of cases passes the cap, and
+    /// names the first; the periods come before the sums. It never refuses for memory.
     pub fn prepare(cube: Cube, var: u32) -> Result<Elimination, Wide>
         requires { IsPrimitiveCube Int cube }
         ensures { CappedWide (first_numbers cube var) (record { cube = cube; variable = var }) result }
@@ -75,7 +76,8 @@ impl Elimination {
         }
     }
 
-    /// The case of this number. It refuses exactly where one of its numbers passes the cap, and names the first.
+    /// The case of this number, which is below `count`. Wide names the first of its numbers past the cap; a case with no
+    /// such number is refused only for memory.
     pub fn case(&self, alloc: Global, index: u64) -> Result<Cube, Short<Wide>>
         requires { index < length (cooper self.now.cube self.now.variable) }
         ensures { Capped (cube_numbers (case_at self.now.cube self.now.variable index)) (case_at self.now.cube self.now.variable index) result }
@@ -88,7 +90,8 @@ impl Elimination {
         lower_case(alloc, lits, self.var, place, k)
     }
 
-    /// All cases in order. It refuses exactly where a number of the elimination passes the cap, and names the first.
+    /// All cases in order. Wide names the first number of the elimination past the cap; where there is none, it refuses
+    /// only for memory.
     pub fn all(&self, alloc: Global) -> Result<Items<Cube>, Short<Wide>>
         ensures { Capped (elimination_numbers Int self.now.cube self.now.variable) (cooper self.now.cube self.now.variable) result }
     {
@@ -103,8 +106,8 @@ impl Elimination {
         Ok(cubes)
     }
 
-    /// Refuses exactly where a number of the elimination passes the cap, and names the first. Each case is built once and
-    /// dropped.
+    /// Ok only where no number of the elimination passes the cap. Wide names the first that does; where none does, it
+    /// refuses only for memory.
     pub fn check(&self, alloc: Global) -> Result<(), Short<Wide>>
         ensures { Capped (elimination_numbers Int self.now.cube self.now.variable) tt result }
     {
@@ -119,7 +122,8 @@ impl Elimination {
     }
 }
 
-/// All cases of the variable. It refuses exactly where a number of the elimination passes the cap, and names the first.
+/// All cases of the variable. Wide names the first number of the elimination past the cap; where there is none, it
+/// refuses only for memory.
 pub(crate) fn eliminate(alloc: Global, cube: &Cube, var: u32) -> Result<Items<Cube>, Short<Wide>>
     requires { IsPrimitiveCube Int cube.now }
     ensures { Capped (elimination_numbers Int cube.now var) (cooper cube.now var) result }

@@ -163,7 +163,8 @@ fn eliminated_cube(alloc: Global, cube: &[Lit], var: u32) -> Result<Cube, Short<
     }
 }
 
-/// The list of the one eliminated cube. It refuses exactly where a number of it passes the cap, and names the first.
+/// The list of the one eliminated cube. Wide names the first number of it past the cap; where there is none, it refuses
+/// only for memory.
 pub(crate) fn eliminate(alloc: Global, cube: &Cube, var: u32) -> Result<Items<Cube>, Short<Wide>>
     requires { IsPrimitiveCube Rat cube.now }
     ensures { Capped (elimination_numbers Rat cube.now var) (eliminated Rat cube.now var) result }

@@ -19,7 +19,9 @@ use lin_term::Row;
 use lin_truth::Term;
 use std::alloc::Global;
 
-/// The form of a term without a choice, in a scope; of any other term the answer is want of memory.
+/// The form of a term without a choice, in a scope. Refuses where a form on the way has a number past 2^52 (`Number`,
+/// only there), or for memory, which is also the answer to an `ite` or a formula. An `abs`, `div` or `mod`, and a divisor,
+/// is what `constant_form` gives.
 #[cycle(direct_form)]
 pub fn direct_form(alloc: Global, ctx: &[Bound], term: &Term) -> Result<LinForm, FormFault>
     ensures { Formed (made (tree_of term.now) ctx.now) (direct_lin (tree_of term.now) ctx.now) result }

@@ -162,7 +162,8 @@ impl LinForm {
     }
 }
 
-/// A value in lowest terms, as a form without variables.
+/// num/den in lowest terms, as a form without variables; den in 1..=2^104, |num| at most 2^106.
+/// Refuses where one of its numbers is past 2^52 (`Number`, only there), or for memory.
 pub fn lowest_value(alloc: Global, num: i128, den: u128) -> Result<LinForm, FormFault>
     requires den_least { 1 ≤ den }
     requires den_greatest { den ≤ 2 ^ 104 }
@@ -186,7 +187,8 @@ fn combined(alloc: Global, p: i64, x: &LinForm, q: i64, y: &LinForm) -> Result<L
     reduced_sum(alloc, den, left + right, p, x.row.coefs(), q, y.row.coefs())
 }
 
-/// n/d times a form.
+/// n/d times a form, in lowest terms; n in -2^52..=2^52, d in 1..=2^52.
+/// Refuses where one of its numbers is past 2^52 (`Number`, only there), or for memory.
 pub fn scaled(alloc: Global, n: i64, d: u64, x: &LinForm) -> Result<LinForm, FormFault>
     requires n_kept { nat_abs n ≤ cap }
     requires d_least { 1 ≤ d }
@@ -199,7 +201,8 @@ pub fn scaled(alloc: Global, n: i64, d: u64, x: &LinForm) -> Result<LinForm, For
     reduced_sum(alloc, den, constant, n, x.row.coefs(), 0, &[])
 }
 
-/// The sum of two forms.
+/// The sum of two forms, in lowest terms.
+/// Refuses where one of its numbers is past 2^52 (`Number`, only there), or for memory.
 pub fn plus(alloc: Global, x: &LinForm, y: &LinForm) -> Result<LinForm, FormFault>
     ensures { let lin : Lin = lin_plus x.now y.now in
         Formed (lin ∷ []) lin result }
@@ -209,7 +212,8 @@ pub fn plus(alloc: Global, x: &LinForm, y: &LinForm) -> Result<LinForm, FormFaul
     combined(alloc, p, x, q, y)
 }
 
-/// The difference of two forms.
+/// The first form less the second, in lowest terms.
+/// Refuses where one of its numbers is past 2^52 (`Number`, only there), or for memory.
 pub fn minus(alloc: Global, x: &LinForm, y: &LinForm) -> Result<LinForm, FormFault>
     ensures { let lin : Lin = lin_minus x.now y.now in
         Formed (lin ∷ []) lin result }
@@ -219,7 +223,8 @@ pub fn minus(alloc: Global, x: &LinForm, y: &LinForm) -> Result<LinForm, FormFau
     combined(alloc, p, x, q, y)
 }
 
-/// The negative form.
+/// The negative form, in lowest terms.
+/// Refuses where one of its numbers is past 2^52 (`Number`, only there), or for memory.
 pub fn negative(alloc: Global, x: &LinForm) -> Result<LinForm, FormFault>
     ensures { let lin : Lin = lin_neg x.now in
         Formed (lin ∷ []) lin result }
@@ -227,7 +232,9 @@ pub fn negative(alloc: Global, x: &LinForm) -> Result<LinForm, FormFault>
     scaled(alloc, -1, 1, x)
 }
 
-/// The product of two forms of which one has no variables.
+/// The product of two forms of which one has no variables, in lowest terms. Where both have variables, only the
+/// constant and the denominator of the second count.
+/// Refuses where one of its numbers is past 2^52 (`Number`, only there), or for memory.
 pub fn times(alloc: Global, x: &LinForm, y: &LinForm) -> Result<LinForm, FormFault>
     ensures { let lin : Lin = lin_times x.now y.now in
         Formed (lin ∷ []) lin result }

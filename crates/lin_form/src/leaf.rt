@@ -21,7 +21,7 @@ use std::alloc::Global;
 /// Levels stay below this number: a prefix has at most 1,024 variables.
 const LEVELS: u32 = 1_048_576;
 
-/// The level of the variable at a place.
+/// The level of the variable at a place; 0 where the scope has no such place.
 pub fn level_of(ctx: &[Bound], place: u32) -> u32
     ensures { result ≡ level_at ctx.now place }
 {
@@ -31,7 +31,7 @@ pub fn level_of(ctx: &[Bound], place: u32) -> u32
     }
 }
 
-/// The form of the variable at a level below 2^20; past it the answer is want of memory.
+/// The form of the variable at a level below 2^20; from there on the answer is want of memory. Refuses only so.
 pub fn variable(alloc: Global, level: u32) -> Result<LinForm, FormFault>
     ensures { Formed (lin_variable level ∷ []) (lin_variable level) result }
 {

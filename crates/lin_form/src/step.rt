@@ -43,7 +43,9 @@ fn operate(alloc: Global, op: Operation, x: &LinForm, y: &LinForm) -> Result<Lin
     }
 }
 
-/// The same, of forms that were worked out before.
+/// What an operation makes of two forms that were worked out before. Where one of them has a fault, so has the result;
+/// else it refuses where one of its numbers is past 2^52 (`Number`, only there), or for memory. A quotient by 0, and a
+/// remainder of forms with a denominator, which no goal has, are answered by want of memory.
 pub fn operated(
     alloc: Global,
     op: Operation,
@@ -63,7 +65,8 @@ pub fn operated(
     operate(alloc, op, &x, &y)
 }
 
-/// A step from a form on, with one that was worked out behind it.
+/// What an operation makes of a form and one that was worked out behind it. A fault of the second stays a fault; else
+/// it refuses as `operated`.
 pub fn stepped(
     alloc: Global,
     op: Operation,
@@ -79,7 +82,9 @@ pub fn stepped(
     operate(alloc, op, x, &y)
 }
 
-/// The quotient of a form and one without variables; where that is 0, which no goal has, the answer is want of memory.
+/// The quotient of a form and one without variables, in lowest terms; of the second only the constant and the
+/// denominator count. Refuses where a number of the quotient is past 2^52 (`Number`, only there), or for memory, which is
+/// also the answer where the second is 0, as no goal has it.
 pub fn over(alloc: Global, x: &LinForm, y: &LinForm) -> Result<LinForm, FormFault>
     ensures { let lin : Lin = lin_over x.now (value_of y.now) in
         Formed (lin ∷ []) lin result }
@@ -131,7 +136,8 @@ fn quotient_form(alloc: Global, x: &LinForm, y: &LinForm) -> Result<LinForm, For
     }
 }
 
-/// The negative.
+/// The negative of a form that was worked out before, in lowest terms. A fault stays a fault; else
+/// it refuses where one of its numbers is past 2^52 (`Number`, only there), or for memory.
 pub fn negated(alloc: Global, x: Result<LinForm, FormFault>) -> Result<LinForm, FormFault>
     ensures { (xs : List Lin) (v : Lin) → Formed xs v x → Formed (xs ++ lin_neg v ∷ []) (lin_neg v) result }
 {
@@ -151,7 +157,8 @@ fn absolute_form(alloc: Global, x: &LinForm) -> Result<LinForm, FormFault>
     lowest_value(alloc, size, x.den() as u128)
 }
 
-/// The absolute value of a constant term.
+/// The absolute value of a form without variables that was worked out before, in lowest terms. A fault stays a fault;
+/// else it refuses where one of its numbers is past 2^52 (`Number`, only there), or for memory.
 pub fn absolute(alloc: Global, x: Result<LinForm, FormFault>) -> Result<LinForm, FormFault>
     ensures { (xs : List Lin) (v : Lin) → Formed xs v x → Formed (xs ++ absolute_lin v ∷ []) (absolute_lin v) result }
 {

@@ -24,8 +24,9 @@ fn inequality_of(strict: bool, row: Result<Row, Short<Wide>>) -> Result<Lit, Sho
     }
 }
 
-/// The primitive form of p times a and q times b over the rationals, Above where one of the two is. Wide comes exactly
-/// where it has a number past the cap, and names the first, coefficients before the constant.
+/// The primitive form over the rationals of the sum of p times a and q times b, Above where one of the two is, else
+/// AtLeast. p and q are in `-CAP..=CAP`. Wide names the first number of it past the cap, coefficients before the
+/// constant; where there is none, it refuses only for memory.
 pub fn add_multiples(alloc: Global, p: i64, a: &Lit, q: i64, b: &Lit) -> Result<Lit, Short<Wide>>
     requires p_kept { nat_abs p ≤ cap }
     requires q_kept { nat_abs q ≤ cap }

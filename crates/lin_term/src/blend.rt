@@ -13,7 +13,7 @@ use crate::row::Coefs;
 use smallvec::SmallVec;
 use std::alloc::Global;
 
-/// The product of two kept numbers.
+/// The product of two numbers in `-CAP..=CAP`; it is at most 2^104 in size.
 pub fn product(p: i64, a: i64) -> i128
     requires p_kept { nat_abs p ≤ cap }
     requires a_kept { nat_abs a ≤ cap }
@@ -121,7 +121,9 @@ pub(crate) fn reduced(coef: i128, modulus: i128) -> i128
     }
 }
 
-/// The greatest common divisor of a number and the coefficients of a sum, these modulo a number.
+/// The greatest common divisor of `start` and the coefficients of p times the left terms and q times the right ones
+/// without variable `skip`, modulo `modulus`, which is 0 or more; 0 leaves them as they are. p and q are in
+/// `-CAP..=CAP`, the terms are as those of a row.
 pub fn common_of_sum(
     start: u128,
     modulus: i128,
@@ -168,7 +170,9 @@ fn push_quotient(out: &mut Coefs, var: u32, coef: i128, g: i128) -> Result<(), S
     Ok(())
 }
 
-/// The terms of a sum, modulo a number, divided by a number and rounded down.
+/// The terms of p times the left terms and q times the right ones without variable `skip`, modulo `modulus` (0 or more;
+/// 0 leaves them as they are), divided by g (1 or more) and rounded down. p and q are in `-CAP..=CAP`, the terms are as
+/// those of a row. Wide names the first result past the cap; where there is none, it refuses only for memory.
 pub fn quotients_of_sum(
     alloc: Global,
     modulus: i128,

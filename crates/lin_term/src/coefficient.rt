@@ -9,7 +9,7 @@ ghost use Rattle.lin_term.specs.Replaced.{replaced, past};
 use crate::fault::Memory;
 use crate::row::{Coefs, Row};
 
-/// The coefficient of a variable, 0 where it does not occur.
+/// The coefficient of a variable, in `-CAP..=CAP`; 0 exactly where it does not occur.
 pub fn coefficient_at(row: &Row, var: u32) -> i64
     ensures value { result ≡ coef_of row.now.terms var }
     ensures size { nat_abs result ≤ cap }

@@ -30,9 +30,10 @@ pub enum CombineFault {
 /// Above the number of every variable.
 pub(crate) const NO_VARIABLE: u32 = 1 << 20;
 
-/// The primitive form of p times a and q times b, Above where one of the two is. Divisor comes exactly where g is
-/// not the divisor of the sum, Wide exactly where it is and the result has a number past the cap: the first one,
-/// coefficients before the constant.
+/// The primitive form of the sum of p times a and q times b, Above where one of the two is. Both are primitive
+/// inequalities; p and q are in `1..=CAP`, g in `1..=2^105`. Divisor comes only where g is not the divisor of the sum,
+/// Wide only where it is and the result has a number past the cap: the first one, coefficients before the constant.
+/// Where neither is so, it refuses only for memory.
 pub fn combine(
     alloc: Global,
     sort: Sort,

@@ -21,7 +21,8 @@ pub struct Defined {
 }
 
 /// The two literals, in primitive form, with `names[i]` for variable i of the move. The names ascend and are below the
-/// node, and the move is kept, so no number of them is past the cap. It refuses only for memory.
+/// node, which is below 2^20; the move's variables are below their count, and the move is kept, so no number of them is
+/// past the cap. It refuses only for memory.
 pub fn definition_literals(
     alloc: Global,
     sort: Sort,
@@ -55,7 +56,8 @@ fn minus(z: i64) -> i64
     -z
 }
 
-/// The row with the names in place of its variables; refuses only for memory.
+/// The row with `names[i]` for variable i. The names ascend and are below 2^20, and the row's variables are below their
+/// count. It refuses only for memory.
 pub fn renamed_row(alloc: Global, row: &Row, names: &[u32]) -> Result<Row, Memory>
     requires rising { IsRising names.now (2 ^ 20) }
     requires below { Below (length names.now) row.now }

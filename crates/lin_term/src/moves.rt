@@ -56,7 +56,7 @@ impl Move {
         is_one_and_within(g, number)
     }
 
-    /// The move as written, in lowest form or not.
+    /// The move as written, in lowest form or not; the divisor lies in `1..=CAP`.
     pub fn from_parts(row: Row, div: i64) -> Move
         requires least { pos 1 ≤ℤ div }
         requires greatest { nat_abs div ≤ cap }

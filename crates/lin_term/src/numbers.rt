@@ -8,14 +8,14 @@ ghost use Rattle.lin_term.specs.Wide.{fits};
 
 use crate::row::CAP;
 
-/// Whether a number is within the cap.
+/// Whether a number is within the cap, in `-CAP..=CAP`.
 pub fn is_within(z: i128) -> bool
     ensures { result ≡ fits z }
 {
     z.unsigned_abs() <= CAP as u128
 }
 
-/// The greatest common divisor, by Euclid; numbers of one word are divided as such.
+/// The greatest common divisor, by Euclid, 0 of 0 and 0; numbers of one word are divided as such.
 pub fn gcd_of(a: u128, b: u128) -> u128
     ensures { result ≡ gcd a b }
 {
@@ -35,7 +35,7 @@ pub fn gcd_of(a: u128, b: u128) -> u128
     gcd_of_words(y as u64, (x % y) as u64) as u128
 }
 
-/// The greatest common divisor of two numbers of one word.
+/// The greatest common divisor of two numbers of one word, 0 of 0 and 0.
 pub fn gcd_of_words(a: u64, b: u64) -> u64
     ensures { result ≡ gcd a b }
 {
@@ -71,7 +71,7 @@ fn is_word(z: i128) -> bool
     z.unsigned_abs() < 1 << 63
 }
 
-/// The quotient rounded down; numbers of one word are divided as such.
+/// The quotient of a and g rounded down; g is 1 or more. Numbers of one word are divided as such.
 pub fn floor_quotient(a: i128, g: i128) -> i128
     requires { pos 1 ≤ℤ g }
     ensures { result ≡ floor_div a (nat_abs g) }

@@ -69,8 +69,9 @@ fn divided_in_int(alloc: Global, coefs: Coefs, constant: i64) -> Result<Row, Sho
 
 /// The primitive form. In Rat all numbers are divided by their greatest common divisor; in Int the coefficients
 /// are, the constant is rounded down, `row > 0` is `row - 1 >= 0`, and a divisibility is reduced modulo its modulus.
-/// Wide comes exactly where that form has a number past the cap: the first one, a modulus before the coefficients
-/// and these before the constant.
+/// The literal is an inequality, or in Int a divisibility with a modulus in `1..=CAP`. Wide names the first number of
+/// that form past the cap, a modulus before the coefficients and these before the constant; where there is none, it
+/// refuses only for memory.
 pub fn primitive(alloc: Global, sort: Sort, lit: Lit) -> Result<Lit, Short<Wide>>
     requires { IsPrimable sort lit }
     ensures { Capped (lit_numbers (prim sort lit)) (prim sort lit) result }
@@ -189,7 +190,8 @@ pub(crate) fn not_divides(parts: Result<(u64, Row), Short<Wide>>) -> Result<Lit,
     }
 }
 
-/// The negation in primitive form; Wide as in `primitive`.
+/// The negation of a primitive literal, in primitive form; its modulus may be past the cap. Wide names the first number
+/// of the result past the cap, as in `primitive`; where there is none, it refuses only for memory.
 pub fn negate(alloc: Global, sort: Sort, lit: &Lit) -> Result<Lit, Short<Wide>>
     requires { IsPrimitive sort lit.now }
     ensures { Capped (lit_numbers (neg sort lit.now)) (neg sort lit.now) result }

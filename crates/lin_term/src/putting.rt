@@ -156,8 +156,9 @@ fn put_there(
 }
 
 /// The literal with (terms + constant)/a put in for the variable, in primitive form; a literal without the variable
-/// stays as it is. The constant is at most 2^53 in size. Wide comes exactly where that form has a number past the cap,
-/// and names the first.
+/// stays as it is. The literal is primitive, its modulus and a in `1..=CAP`; the terms are as those of a row, the
+/// constant is at most 2^53 in size. Wide names the first number of the result past the cap; where there is none, it
+/// refuses only for memory.
 pub fn put_in(
     alloc: Global,
     sort: Sort,
@@ -185,8 +186,8 @@ pub fn put_in(
 }
 
 /// The literal with (term - residue)/div put in for the variable, in primitive form; a literal without the variable
-/// stays as it is. The residue is below the term's divisor. Wide comes exactly where that form has a number past the
-/// cap, and names the first.
+/// stays as it is. The literal is primitive, its modulus in `1..=CAP`; the residue is below the term's divisor. Wide
+/// names the first number of the result past the cap; where there is none, it refuses only for memory.
 pub fn substitute(
     alloc: Global,
     sort: Sort,
@@ -230,7 +231,8 @@ fn copied(alloc: Global, sort: Sort, lit: &Lit) -> Result<Lit, Short<Wide>>
     }
 }
 
-/// That a divides terms + constant, in primitive form; the constant is at most 2^53 in size. Wide as in `put_in`.
+/// That a divides terms + constant, in primitive form over the integers; a is in `1..=CAP`, the terms are as those of a
+/// row, the constant is at most 2^53 in size. It refuses as `put_in` does.
 pub fn divides_in(
     alloc: Global,
     terms: &[(u32, i64)],

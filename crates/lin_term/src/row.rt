@@ -40,7 +40,7 @@ impl Model for Row {
 }
 
 impl Row {
-    /// The row without variables.
+    /// The row without variables; the constant lies in `-CAP..=CAP`.
     pub fn constant(alloc: Global, c: i64) -> Row
         requires { nat_abs c ≤ cap }
         ensures { result ≡ record { terms = []; constant = c } }
@@ -51,7 +51,8 @@ impl Row {
         }
     }
 
-    /// The row of these coefficients, which ascend by variable and hold no 0, and this constant.
+    /// The row of these coefficients, which ascend by variable and hold no 0, and this constant. All are in `-CAP..=CAP`,
+    /// and the variables are below 2^20.
     pub fn from_parts(coefs: Coefs, constant: i64) -> Row
         requires { IsRow (record { terms = coefs.items; constant = constant }) }
         ensures { result ≡ record { terms = coefs.items; constant = constant } }
@@ -59,7 +60,7 @@ impl Row {
         Row { coefs, constant }
     }
 
-    /// The coefficients by variable number, ascending.
+    /// The coefficients by variable number, ascending: none 0, in `-CAP..=CAP`, variables below 2^20.
     pub fn coefs(&self) -> &[(u32, i64)]
         ensures terms { result.now ≡ self.now.terms }
         ensures kept { AreTerms 0 result.now }
@@ -67,7 +68,7 @@ impl Row {
         self.coefs.as_slice()
     }
 
-    /// The constant.
+    /// The constant, in `-CAP..=CAP`.
     pub fn constant_part(&self) -> i64
         ensures value { result ≡ self.now.constant }
         ensures kept { nat_abs result ≤ cap }

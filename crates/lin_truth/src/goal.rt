@@ -36,7 +36,8 @@ impl Model for Goal {
 }
 
 impl Goal {
-    /// The goal of these parts. The place is that of its check-sat, from 1, columns in bytes.
+    /// The goal of these parts. The body must be a well-formed formula over the constants, with numbers in lowest terms
+    /// within 2^52. The place is that of its check-sat, from 1, columns in bytes.
     pub fn make(sort: Sort, line: u64, column: u64, consts: Items<VarSort>, body: Term) -> Goal
         requires { IsGoal (record { sort = sort; line = line; column = column; consts = consts; body = body }) }
         ensures { result ≡ record { sort = sort; line = line; column = column; consts = consts; body = body } }

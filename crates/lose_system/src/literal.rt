@@ -12,7 +12,8 @@ use dom_core::Domain;
 use lin_term::{Defined, Lit, Memory, Move, Short, Sort, negate, renamed_row};
 use std::alloc::Global;
 
-/// The literal with the names in place of its variables.
+/// The literal with `names[i]` for variable i. The names ascend and are below 2^20, and the literal's variables are
+/// below their count. It refuses only for memory.
 pub fn renamed(alloc: Global, lit: &Lit, names: &[u32]) -> Result<Lit, Memory>
     requires rising { IsRising names.now (2 ^ 20) }
     requires below { Below (length names.now) (form_of lit.now) }
@@ -26,7 +27,9 @@ pub fn renamed(alloc: Global, lit: &Lit, names: &[u32]) -> Result<Lit, Memory>
     }
 }
 
-/// The negation of a primitive literal, with the names in place of its variables.
+/// The negation of a primitive literal, in primitive form, with `names[i]` for variable i. The negation is within the
+/// cap; the names ascend and are below 2^20, and the literal's variables are below their count. It refuses only for
+/// memory.
 #[tactic(auto, using(crate::proofs::Seen::neg_below))]
 pub fn negated(alloc: Global, sort: Sort, lit: &Lit, names: &[u32]) -> Result<Lit, Memory>
     requires rising { IsRising names.now (2 ^ 20) }
@@ -42,7 +45,7 @@ pub fn negated(alloc: Global, sort: Sort, lit: &Lit, names: &[u32]) -> Result<Li
     }
 }
 
-/// Definition literal `which` of a move's node; none exactly where `which` is above 1.
+/// Definition literal `which` of a move's node; none exactly where `which` is above 1. It refuses only for memory.
 pub fn defining<D: Domain>(
     alloc: Global,
     term: &Move,

@@ -19,7 +19,7 @@ fn above_of(nodes: &[Node<'_>], node: u32) -> u32
 }
 
 /// Adds the last `depth` nodes on the way down to `node`, the highest first. It calls itself once a level, at most 1,024
-/// times.
+/// times. It refuses only for memory.
 pub fn add_route(
     nodes: &[Node<'_>],
     depth: u32,

@@ -47,7 +47,7 @@ impl<'a, D: Domain> Model for System<'a, D> {
 }
 
 impl<'a, D: Domain> System<'a, D> {
-    /// The losing system of this skeleton of the problem; refuses only for memory.
+    /// The losing system of a problem and a tree that is a skeleton of it; refuses only for memory.
     pub fn of(
         alloc: Global,
         problem: &'a Problem<D>,
@@ -82,7 +82,8 @@ impl<'a, D: Domain> System<'a, D> {
         self.ends.len() as u32
     }
 
-    /// The formula that each path negates. Its type keeps the problem, and a skeleton of it.
+    /// The problem's matrix, which each path negates. The problem is one that its type keeps, and the tree a skeleton of
+    /// it.
     pub fn matrix(&self) -> &'a Matrix
         ensures value { result.now ≡ self.now.problem.matrix }
         ensures kept { IsProblem D.SORT self.now.problem }
@@ -91,7 +92,8 @@ impl<'a, D: Domain> System<'a, D> {
         self.problem.matrix()
     }
 
-    /// The nodes of the k-th path in preorder, for the positions of the prefix; none exactly where there is no such path.
+    /// The nodes of path k in preorder, from 0, for the positions of the prefix; none exactly where there is no such path.
+    /// It refuses only for memory.
     pub fn path_nodes(&self, alloc: Global, k: u32) -> Result<Option<Items<u32>>, Memory>
         ensures value { IfOk result (λ o. o ≡ slice_get (routes (skeleton_of self.now.tree) [] 0) k) }
         ensures kept { IfOk result (λ o. IfSome o (λ names. IsWay (length self.now.problem.prefix) names)) }
@@ -105,7 +107,8 @@ impl<'a, D: Domain> System<'a, D> {
         Ok(Some(names))
     }
 
-    /// Definition literal `which` of a move's node; none exactly where the node is no move or `which` is above 1.
+    /// Definition literal `which` of a move's node; none exactly where the node is no move or `which` is above 1. It
+    /// refuses only for memory.
     pub fn definition(&self, alloc: Global, node: u32, which: u32) -> Result<Option<Lit>, Memory>
         ensures { IfOk result (λ o. o ≡ definition_literal D.SORT self.now node which) }
     {

@@ -190,7 +190,8 @@ pub fn is_formula(term: &Term, scope: &[VarSort]) -> bool
     }
 }
 
-/// What the form of a formula counts, or that of its negation, up to the limit.
+/// What the form of a formula counts in this scope, or that of its negation, up to `LIMIT`. Both rates must be 0 or 1.
+/// Refuses only for memory.
 #[cycle(count)]
 pub fn formula_count(
     alloc: Global,

@@ -18,8 +18,9 @@ use lin_truth::{Term, VarSort};
 use std::alloc::Global;
 
 /// The normal form of a body under its constants; see SMT-LIB 2.6, theories Core, Ints and Reals, for the
-/// connectives. `Number` comes exactly where a linear form, a partial sum, a literal or its negation has a number past 2^52,
-/// and `Size` and `Variables` never. The form can be exponentially larger than the body: ask `formula_count` first.
+/// connectives. Refuses where a linear form, a partial sum, a literal or its negation has a number past 2^52 (`Number`,
+/// only there), or for memory; `Size` and `Variables` never come. For a body that no goal has, want of memory may be the
+/// answer. The form can be exponentially larger than the body: ask `formula_count` first.
 #[tactic(auto, using(crate::proofs::GoalForms::built_fits, crate::proofs::GoalForms::built_true))]
 pub fn normal_form(
     alloc: Global,

@@ -96,7 +96,8 @@ fn fault_at(goal: &Goal, fault: FormFault) -> ScriptFault
 
 /// The problem of a goal: its normal form with the quantifiers in front. A fault stands at the goal's check-sat: `Size` where
 /// the matrix has more than 1,048,576 nodes, else `Variables` where the prefix has more than 1,024 variables, else `Number`
-/// where a linear form, a partial sum, a literal or its negation has a number past 2^52.
+/// where a linear form, a partial sum, a literal or its negation has a number past 2^52. Want of memory is `Memory`. The
+/// goal must be of the domain's sort, and is true exactly where the problem is.
 pub fn problem_of<D: Domain>(alloc: Global, goal: &Goal) -> Result<Problem<D>, ScriptFault>
     requires { goal.now.sort ≡ D.SORT }
     ensures form { IsForm goal.now result }

@@ -105,8 +105,9 @@ fn first_bad_line<D: Domain>(
     }
 }
 
-/// Ok exactly where the lines refute the losing system; else the first line, counted from 0, that breaks its rule. Lines
-/// that are missing break rule Form at the line after the last, lines that are too many at the first of them.
+/// Ok exactly where the lines refute the losing system; else the first line, counted from 0, that breaks its rule, or
+/// want of memory. Lines that are missing break rule Form at the line after the last, lines that are too many at the
+/// first of them.
 pub fn check<D: Domain>(
     alloc: Global,
     system: &System<'_, D>,

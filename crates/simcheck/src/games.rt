@@ -14,7 +14,8 @@ use prenex_form::problem_of;
 use ss_names::ScriptFault;
 use std::alloc::Global;
 
-/// The problem of each goal in order, or the fault of the first that has none.
+/// The problem of each goal in order, or the fault of the first that has none, or want of memory. The goals must be of
+/// the domain's sort.
 pub fn problems_of<D: Domain>(alloc: Global, goals: &[Goal]) -> Result<Vec<Problem<D>>, ScriptFault>
     requires { AreOfSort D.SORT goals.now }
     ensures games { IfOk result (λ ps. AreGamesOf D.SORT goals.now ps.items) }

@@ -26,7 +26,7 @@ pub struct Report {
     pub text: Vec<u8>,
 }
 
-/// The usage line.
+/// The usage line, with the status Usage. Refuses only for memory.
 pub fn usage_report(alloc: Global) -> Result<Report, AllocError>
     ensures answer { IfOk result (λ r. answer_of r ≡ usage) }
     ensures status { IfOk result (λ r. IsAnswer r.status) }
@@ -38,7 +38,8 @@ pub fn usage_report(alloc: Global) -> Result<Report, AllocError>
     })
 }
 
-/// The line of a script's fault.
+/// The line of a script's fault: its kind's number and name, and its place, with the status Refused. Refuses only for
+/// memory.
 pub fn refusal_report(
     alloc: Global,
     kind: FaultKind,
@@ -160,7 +161,8 @@ fn reject_form(alloc: Global, line: u64) -> Result<Report, AllocError>
     })
 }
 
-/// The answer for these problems over the bytes of the file.
+/// The answer for these problems over the bytes of the file; what it says to be accepted is won by its section. Refuses
+/// only for memory.
 #[tactic(auto, unfolding(crate::specs::Verdicts::judged))]
 pub fn judge<D: Domain>(
     alloc: Global,

@@ -161,7 +161,8 @@ fn report_on<S: Shelf>(alloc: Global, words: &[String], shelf: &mut S) -> Result
     }
 }
 
-/// Checks, prints, and says how it ended.
+/// Checks the file against the script that the words name, prints the answer, and says how it ended. The statuses 0 to 3
+/// are answers; the others are a fault of reading, a fault of printing, and want of memory.
 #[tactic(auto, using(crate::proofs::Telling::is_over))]
 pub fn check_run<S: Shelf, O: Sink>(
     alloc: Global,
@@ -169,9 +170,10 @@ pub fn check_run<S: Shelf, O: Sink>(
     shelf: &mut S,
     out: &mut O,
 ) -> CheckStatus
-    // An answer is that of the words and the files, and exactly its text was written.
+    // An answer is that of the words and of what the shelf tells of the files, and where the sink tells it, exactly its
+    // text was written.
     ensures answer { IsAnswer result → Said (S.files shelf.old) (names_of (map string_bytes words.now)) (O.written out.old) (O.written out.new) result }
-    // Usage comes exactly where the words are not in the grammar.
+    // Among the statuses 0 to 3, Usage comes exactly where the words are not in the grammar.
     ensures usage { IsAnswer result → UsageOnlyFor (names_of (map string_bytes words.now)) result }
     // A fault of reading comes only where the count of a fetch of SCRIPT or FILE rose; no other count changes.
     ensures counts { ReadCounted (IsNamed (names_of (map string_bytes words.now))) (S.faults shelf.old) (S.faults shelf.new) (result ≡ CheckStatus.ReadFault) }
@@ -180,7 +182,7 @@ pub fn check_run<S: Shelf, O: Sink>(
     ensures print_fault { result ≡ CheckStatus.PrintFault → Rose (O.faults out.old) (O.faults out.new) }
     ensures part { result ≡ CheckStatus.PrintFault → SaidPart (S.files shelf.old) (names_of (map string_bytes words.now)) (O.written out.old) (O.written out.new) }
     ensures memory { result ≡ CheckStatus.Memory → (O.written out.new ≡ O.written out.old) ⊎ SaidPart (S.files shelf.old) (names_of (map string_bytes words.now)) (O.written out.old) (O.written out.new) }
-    // Every file is as before.
+    // Where the shelf tells its files, every file is as before.
     ensures files { S.files shelf.new ≡ S.files shelf.old }
 {
     let report = match report_on(alloc, words, shelf) {

@@ -23,7 +23,7 @@ pub enum CheckStatus {
 }
 
 impl CheckStatus {
-    /// The exit status of the program.
+    /// The exit status of the program: 0 to 3 for an answer, 4, 6 and 7 for the faults.
     pub fn code(self) -> u8
         ensures { result ≡ number_of self }
     {

@@ -52,7 +52,8 @@ fn command_spelled(name: &[u8]) -> Option<Command>
     command_at(row)
 }
 
-/// The command that the head of a list names; a quoted symbol names none.
+/// The command that the head of a list names; None exactly where the token is no unquoted symbol, or spells none of the
+/// nine commands.
 pub fn command_named(token: &Token<'_>) -> Option<Command>
     ensures { result ≡ spec.command_named (lexeme token.now) }
 {
@@ -62,7 +63,7 @@ pub fn command_named(token: &Token<'_>) -> Option<Command>
     }
 }
 
-/// Whether a command needs a logic that is set.
+/// Whether a command needs a logic that is set: all but infos, options, `set-logic` and `exit`.
 pub fn needs_logic(command: Command) -> bool
     ensures { result ≡ spec.needs_logic command }
 {
@@ -79,7 +80,7 @@ pub fn needs_logic(command: Command) -> bool
     }
 }
 
-/// Whether a command may stand behind a check-sat.
+/// Whether a command may stand behind a check-sat: infos, options and `exit`.
 pub fn may_follow(command: Command) -> bool
     ensures { result ≡ spec.may_follow command }
 {
@@ -112,7 +113,8 @@ fn sets_logic(command: Command) -> bool
     }
 }
 
-/// Whether a command may stand where it does: behind a check-sat or not, and with a logic that is set or not.
+/// Whether a command may stand where it does, behind a check-sat or not, and with a logic that is set or not: behind a
+/// check-sat if it may follow one, with a logic if it does not set one, and without one if it needs none.
 pub fn is_in_order(command: Command, has_goal: bool, has_logic: bool) -> bool
     ensures { result ≡ spec.fits_order has_goal has_logic command }
 {

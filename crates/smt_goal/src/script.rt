@@ -46,7 +46,7 @@ impl Model for Script {
 }
 
 impl Script {
-    /// The script of these goals.
+    /// The script of this sort and these goals, each of which is well formed.
     pub fn make(sort: Sort, goals: Vec<Goal>) -> Script
         requires { AllGoals goals.items }
         ensures { result ≡ record { sort = sort; goals = goals.items } }
@@ -54,14 +54,14 @@ impl Script {
         Script { sort, goals }
     }
 
-    /// The sort of the numbers: Int for LIA and QF_LIA, and else Rat.
+    /// The sort of the numbers; of a script that was read, Int for LIA and QF_LIA, and else Rat.
     pub fn sort(&self) -> Sort
         ensures { result ≡ self.now.sort }
     {
         self.sort
     }
 
-    /// One goal for each check-sat, in order.
+    /// The goals in order, each well formed; of a script that was read, one for each check-sat.
     pub fn goals(&self) -> &[Goal]
         ensures goals { result.now ≡ self.now.goals }
         ensures formed { AllGoals result.now }

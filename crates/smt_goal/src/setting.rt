@@ -10,7 +10,7 @@ use smt_lex::{Token, TokenKind};
 use smt_term::{Part, is_symbol};
 use ss_names::logics;
 
-/// Whether an expression is a keyword.
+/// Whether an expression is a token of kind Keyword.
 pub fn is_keyword(part: Part<'_, '_>) -> bool
     ensures { result ≡ spec.is_keyword (part_seen part.entry) }
 {
@@ -44,7 +44,8 @@ fn is_string_part(word: &[u8], part: Part<'_, '_>) -> bool
     }
 }
 
-/// Whether an option may have this value.
+/// Whether an option may have this value: `:print-success` and `:global-declarations` the symbol `false` alone,
+/// `:regular-output-channel` the string `stdout` alone, each other option any value.
 pub fn is_offered(option: &[u8], value: Part<'_, '_>) -> bool
     ensures { result ≡ spec.is_offered option.now (part_seen value.entry) }
 {
@@ -80,7 +81,8 @@ fn logic_spelled(name: &[u8]) -> Option<Sort>
     logic_at(row)
 }
 
-/// The sort of the numbers of the logic that an expression names, if it is one of those that are read.
+/// The sort of the numbers of the logic that an expression names: Rat for LRA and QF_LRA, Int for LIA and QF_LIA,
+/// quoted or not; None exactly for all else.
 pub fn logic_named(part: Part<'_, '_>) -> Option<Sort>
     ensures { result ≡ spec.logic_named (part_seen part.entry) }
 {

@@ -191,8 +191,8 @@ fn linear_fits(linear: Linear, worths: &[Worth], line: u64, column: u64) -> Resu
     }
 }
 
-/// A term at an application, by what is known of it as a constant term: kind Number exactly where a step of working it
-/// out has a number past the cap.
+/// A term of the table at an application, by what is known of it as a constant term (`Table::worth`): a fault of kind
+/// Number at this place where a step of working it out has a number past the cap.
 pub fn checked(
     table: &Table,
     seen: Seen,
@@ -210,8 +210,9 @@ pub fn checked(
     Ok(seen)
 }
 
-/// An operator at its arguments, by what is known of these as constant terms where it looks at that: kinds Arity, Sort, Divisor and Linear in
-/// this order, exactly where the definition gives them.
+/// An operator at its arguments, which are in the table, by what is known of these as constant terms where it looks at
+/// that: faults of kinds Arity, Sort, Divisor and Linear in this order, as the definition gives them, or want of
+/// memory.
 pub fn application(
     alloc: Global,
     table: &mut Table,
@@ -265,8 +266,8 @@ fn have_sorts(args: &[Seen], sorts: &[VarSort]) -> bool
     right.is_empty()
 }
 
-/// A definition with parameters of these sorts and this body, at its arguments: kinds Arity and Sort in this order,
-/// exactly where the definition gives them.
+/// A definition with parameters of these sorts and this body, at its arguments, all in the table: faults of kind Arity
+/// where it has no parameters or another number of them, then of kind Sort; or want of memory.
 pub fn expansion(
     alloc: Global,
     table: &mut Table,
@@ -304,8 +305,8 @@ pub fn expansion(
     })
 }
 
-/// `(_ divisible n)` at its arguments: kinds Arity, Sort and Divisor in this order, exactly where the definition gives
-/// them.
+/// `(_ divisible n)` at its arguments, which are in the table: faults of kind Arity where it is not one, Sort where
+/// that is no number, and Divisor where n is 0, in this order; or want of memory.
 pub fn divided(
     table: &mut Table,
     modulus: u64,

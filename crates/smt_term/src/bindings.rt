@@ -42,7 +42,8 @@ fn is_taken(taken: &Names<'_>, name: &[u8]) -> bool
     }
 }
 
-/// The name that an expression declares or binds, where these names are taken.
+/// The name that an expression declares or binds, where these names are taken. A fault of kind Sort where it is no
+/// symbol, and of kind Symbol where it is reserved, an operator of the logic or taken; each at its place.
 pub fn new_name<'a>(
     logic: Sort,
     taken: &Names<'_>,
@@ -114,6 +115,8 @@ pub fn bindings_of<'e, 'a>(
 }
 
 /// The names with their sorts that stand in a list, in order: as a definition's parameters, or a binder's variables.
+/// Else the first fault: kind Sort at an item that is no list of two, those of `new_name`, where the names before it
+/// are taken, and those of `sort_of`; or want of memory.
 pub fn sorted<'a>(
     alloc: Global,
     logic: Sort,

@@ -63,7 +63,9 @@ fn is_mark(part: Part<'_, '_>) -> bool
     }
 }
 
-/// The number of a head `(_ divisible n)`.
+/// The n of `(_ divisible n)`, a head whose `(` stands at this place. A fault of kind Sort where the list has another
+/// form, of kind Symbol where its second word is another symbol or the numbers are Real, and of kind Number where n is
+/// past 2^52.
 pub fn index_head(
     logic: Sort,
     line: u64,

@@ -29,7 +29,7 @@ fn number_within(digits: &[u8]) -> Option<u64>
     Some(n)
 }
 
-/// The number of a numeral.
+/// The number of a numeral, up to 2^52; a larger one is a fault of kind Number at the token.
 pub fn numeral(token: &Token<'_>) -> Result<u64, ScriptFault>
     ensures { IsRead (spec.numeral (lexeme token.now)) result }
 {
@@ -138,7 +138,8 @@ fn lowest(num: u128, den: u128) -> Option<(i64, i64)>
     Some((num as i64, den as i64))
 }
 
-/// The numerator and the denominator of a decimal, in lowest terms.
+/// The numerator and the denominator of a decimal, in lowest terms, each up to 2^52. Where one is larger, or the
+/// decimal has more than 38 digits, zeros at the end of its fraction not counted, a fault of kind Number at the token.
 pub fn decimal(token: &Token<'_>) -> Result<(i64, i64), ScriptFault>
     ensures { IsAmount (spec.decimal (lexeme token.now)) result }
 {

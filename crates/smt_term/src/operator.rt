@@ -154,7 +154,8 @@ fn of_logic(op: Operator, logic: Sort) -> Option<Operator>
     }
 }
 
-/// The operator of the logic that a name spells.
+/// The operator that a name spells; None exactly where the table of operators has no such word, or the logic does not
+/// have that operator.
 pub fn operator_named(logic: Sort, name: &[u8]) -> Option<Operator>
     ensures { result ≡ spec.operator_named logic name.now }
 {

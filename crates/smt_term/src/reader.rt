@@ -50,7 +50,7 @@ pub enum Head {
     Name(Known),
 }
 
-/// The sorts of the parameters at this place of the signatures, from 1; none at 0.
+/// The sorts of the parameters at this place of the signatures, from 1; none at 0, and none past the last.
 pub fn signature_of(signatures: &Vec<Items<VarSort>>, at: u32) -> &[VarSort]
     ensures { result.now ≡ signature_at signatures.now.items at }
 {
@@ -127,7 +127,9 @@ impl<'a> Reader<'a> {
         }
     }
 
-    /// What a token says as the head of a list.
+    /// What a token says as the head of a list, where each name stands for an entry of the table. A fault of kind Sort
+    /// where it is no symbol, and of kind Symbol where it is a reserved word but `let`, `forall`, `exists` and `!`, or
+    /// a name that stands for nothing; each at the token.
     #[tactic(auto, unfolding(crate::specs::Terms::head_of))]
     pub fn head(&self, token: &Token<'a>) -> Result<Head, ScriptFault>
         requires { Fits self.now }
@@ -214,7 +216,10 @@ impl<'a> Reader<'a> {
         })
     }
 
-    /// A token as a term.
+    /// A token as a term, where each name stands for an entry of the table. A fault at the token: Number as of
+    /// `numeral` and `decimal`; Sort for a decimal among integers, or no number and no symbol; Symbol for a reserved
+    /// word or a name that stands for nothing; Arity for an operator but `true` and `false`, or a definition with
+    /// parameters. After a fault or want of memory nothing is said of the reader.
     #[tactic(auto, unfolding(crate::specs::Terms::atom))]
     pub fn atom(&mut self, token: &Token<'a>) -> Result<Seen, ScriptFault>
         requires { Fits self.old }

@@ -22,7 +22,8 @@ use symbol_table::{Known, Names};
 use term_table::Quantifier;
 
 impl<'a> Reader<'a> {
-    /// An expression as a term, or its first fault. After a fault nothing is said of the reader.
+    /// An expression as a term, where each name stands for an entry of the table; or its first fault with kind and
+    /// place, or want of memory. After either of these nothing is said of the reader.
     #[cycle(walk)]
     pub fn term(&mut self, expr: &Expr<'a>) -> Result<Seen, ScriptFault>
         requires { Fits self.old }

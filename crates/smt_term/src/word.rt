@@ -31,14 +31,14 @@ fn is_simple_kind(kind: TokenKind) -> bool
     }
 }
 
-/// A symbol, quoted or not: both spell the same name.
+/// Whether a token is a symbol, quoted or not: both spell the same name.
 pub fn is_symbol(token: &Token<'_>) -> bool
     ensures { result ≡ spec.is_symbol (lexeme token.now) }
 {
     is_kind_symbol(token.kind)
 }
 
-/// The word itself, unquoted.
+/// Whether a token is this word, unquoted.
 pub fn is_word(word: &[u8], token: &Token<'_>) -> bool
     ensures { result ≡ spec.is_word word.now (lexeme token.now) }
 {
@@ -55,7 +55,7 @@ fn is_reserved_word(text: &[u8]) -> bool
     }
 }
 
-/// A reserved word. A quoted one is an ordinary symbol.
+/// Whether a token is a reserved word. A quoted one is an ordinary symbol.
 pub fn is_reserved(token: &Token<'_>) -> bool
     ensures { result ≡ spec.is_reserved (lexeme token.now) }
 {
@@ -71,7 +71,8 @@ fn is_operator(logic: Sort, name: &[u8]) -> bool
     }
 }
 
-/// Whether a symbol may be declared or bound, where no name is taken.
+/// Whether a symbol may be declared or bound, where no name is taken: it is no reserved word and spells no operator of
+/// the logic.
 pub fn is_free(logic: Sort, token: &Token<'_>) -> bool
     ensures { result ≡ spec.is_free logic (lexeme token.now) }
 {
@@ -99,7 +100,8 @@ fn sort_spelled(logic: Sort, token: &Token<'_>) -> Result<VarSort, ScriptFault>
     Err(bad(FaultKind::Sort, token.line, token.column))
 }
 
-/// Bool, or the sort of the logic's numbers.
+/// The sort that an expression names: `Bool`, or `Real` or `Int`, whichever the logic's numbers are; each other one is
+/// a fault of kind Sort at its place.
 pub fn sort_of(logic: Sort, part: Part<'_, '_>) -> Result<VarSort, ScriptFault>
     ensures { IsRead (spec.sort_of logic (part_seen part.entry)) result }
 {

@@ -27,7 +27,8 @@ fn row_among(mut text: &[u8], mut lens: &[usize], word: &[u8]) -> Option<usize>
 }
 
 impl<const N: usize> Names<N> {
-    /// The table of the words that a text is cut into, at these lengths, and their codes.
+    /// The table of the words that a text is cut into, at these lengths in bytes, and their codes: as many words as rows.
+    /// The lengths must sum up to that of the text, and no two words may be the same.
     pub fn new(text: &'static str, lens: [usize; N], codes: [u32; N]) -> Names<N>
         requires { IsTrue (is_table lens text.now) }
         ensures words { words result ≡ words_of lens.entry text.now }
@@ -52,7 +53,7 @@ impl<const N: usize> Names<N> {
         row_among(self.text.as_bytes(), &self.lens, word)
     }
 
-    /// The code of a row.
+    /// The code of a row; the row must be below N.
     pub fn code(&self, row: usize) -> u32
         requires { row < N }
         ensures { result ≡ slice_index self.now.codes row }

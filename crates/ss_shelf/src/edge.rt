@@ -17,7 +17,7 @@ pub struct StdSink<W: Write + Drop> {
 }
 
 impl<W: Write + Drop> StdSink<W> {
-    /// Output to this writer.
+    /// Output to this writer, with a count of 0 faults.
     pub fn new(writer: W) -> StdSink<W>
         ensures writer { result.writer ≡ writer }
         ensures faults { result.faults ≡ 0 }
@@ -83,7 +83,7 @@ pub struct FileShelf<'a, R: Files> {
 }
 
 impl<'a, R: Files> FileShelf<'a, R> {
-    /// The files of this system.
+    /// The files of this system; no call failed yet.
     pub fn new(alloc: Global, files: &'a R) -> FileShelf<'a, R>
         ensures { result.failures.calls.items ≡ [] }
     {

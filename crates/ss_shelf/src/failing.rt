@@ -22,7 +22,7 @@ pub struct FailingShelf<S: Shelf + Drop> {
 }
 
 impl<S: Shelf + Drop> FailingShelf<S> {
-    /// The shelf `inner`, but for the calls with these numbers.
+    /// The shelf `inner`, but for the calls with these numbers; no call came yet.
     pub fn new(alloc: Global, inner: S, numbers: Vec<u64>) -> FailingShelf<S>
         ensures held { result.inner ≡ inner }
         ensures numbers { result.turns.numbers.items ≡ numbers.items }
@@ -50,7 +50,8 @@ impl<S: Shelf + Drop> Shelf for FailingShelf<S> {
 
     ghost faults = { λ s. plus_counts (S.faults s.inner) (count_of s.failures.calls.items) };
 
-    /// Fails where this call's number is given, and else is the call of the shelf that it holds.
+    /// Appends the file's bytes as the shelf that it holds. Where this call's number is given it never succeeds and leaves
+    /// that shelf as it was; any other call adds no failure of its own. It may also refuse for memory.
     #[tactic(auto, using(crate::proofs::Counting::plus_left, crate::proofs::Counting::plus_right))]
     fn fetch(&mut self, name: &str, into: &mut Vec<u8>) -> Result<(), ShelfFault>
         ensures same { S.files self.new.inner ≡ S.files self.old.inner }
@@ -71,7 +72,8 @@ impl<S: Shelf + Drop> Shelf for FailingShelf<S> {
         self.inner.fetch(name, into)
     }
 
-    /// Fails where this call's number is given, and else is the call of the shelf that it holds.
+    /// Stores the bytes as the shelf that it holds. Where this call's number is given it never succeeds and leaves that
+    /// shelf as it was; any other call adds no failure of its own. It may also refuse for memory.
     #[tactic(auto, using(crate::proofs::Counting::plus_left, crate::proofs::Counting::plus_right))]
     fn store(&mut self, name: &str, bytes: &[u8]) -> Result<(), ShelfFault>
         ensures stored { OnOk result (Stores (S.files self.old.inner) (S.files self.new.inner) name.now bytes.now) }
@@ -102,7 +104,7 @@ pub struct FailingSink<O: Sink + Drop> {
 }
 
 impl<O: Sink + Drop> FailingSink<O> {
-    /// The sink `inner`, but for the calls with these numbers.
+    /// The sink `inner`, but for the calls with these numbers; no call came yet.
     pub fn new(inner: O, numbers: Vec<u64>) -> FailingSink<O>
         ensures held { result.inner ≡ inner }
         ensures numbers { result.turns.numbers.items ≡ numbers.items }
@@ -122,7 +124,8 @@ impl<O: Sink + Drop> Sink for FailingSink<O> {
 
     ghost faults = { λ s. O.faults s.inner + s.faults };
 
-    /// Fails where this call's number is given, and else is the call of the sink that it holds.
+    /// Where this call's number is given it answers Failed and leaves the sink that it holds as it was. Any other call
+    /// writes as that sink and adds no fault of its own.
     fn write(&mut self, bytes: &[u8]) -> Result<(), SinkFault>
         ensures all { OnOk result (Appends (O.written self.old.inner) (O.written self.new.inner) bytes.now) }
         ensures part { OnErr result (AppendsPart (O.written self.old.inner) (O.written self.new.inner) bytes.now) }

@@ -31,7 +31,8 @@ impl Failures {
         }
     }
 
-    /// Takes the room for an entry, and makes the entry.
+    /// Takes the room for an entry and makes the entry, of this kind and name. The list is as before. Refuses only for
+    /// memory.
     pub fn prepare(
         &mut self,
         alloc: Global,
@@ -47,7 +48,8 @@ impl Failures {
         Ok(FailedCall { kind, name })
     }
 
-    /// Notes the failed call, for which room was taken before.
+    /// Notes the failed call behind the others and answers Failed. There must be room for one more entry: `prepare`
+    /// takes it. The count of the call's kind and name rises, and no other.
     #[tactic(auto, using(crate::proofs::Counting::counted_more))]
     pub fn fail(&mut self, call: FailedCall) -> ShelfFault
         requires room { vec_len self.old.calls < vec_capacity self.old.calls }

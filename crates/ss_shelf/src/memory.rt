@@ -20,7 +20,7 @@ pub struct MemoryShelf {
 }
 
 impl MemoryShelf {
-    /// A shelf without files.
+    /// A shelf without files; no call failed yet.
     pub fn new(alloc: Global) -> MemoryShelf
         ensures empty { (name : List ℕ) → files_of result name ≡ None }
         ensures calls { result.failures.calls.items ≡ [] }
@@ -56,7 +56,8 @@ impl Shelf for MemoryShelf {
 
     ghost faults = { λ s. count_of s.failures.calls.items };
 
-    /// Appends the file's bytes. It fails exactly where there is no such file.
+    /// Appends the file's bytes and changes no file. It answers Failed only where there is no such file, and never
+    /// succeeds there; any other refusal is for memory. After a refusal `into` is as before.
     fn fetch(&mut self, name: &str, into: &mut Vec<u8>) -> Result<(), ShelfFault>
         ensures same { Some (files_of self.new) ≡ Some (files_of self.old) }
         ensures bytes { OnOk result (Fetches (Some (files_of self.old)) name.now into.old.items into.new.items) }
@@ -76,7 +77,8 @@ impl Shelf for MemoryShelf {
         }
     }
 
-    /// Makes the file hold these bytes. It refuses only for memory.
+    /// Makes the file hold exactly these bytes; every other file is as before. It refuses only for memory, and then
+    /// changes no file.
     fn store(&mut self, name: &str, bytes: &[u8]) -> Result<(), ShelfFault>
         ensures stored { OnOk result (Stored name.now bytes.now (files_of self.old) (files_of self.new)) }
         ensures failed { result ≡ Err ShelfFault.Failed → KeepsOthers (Some (files_of self.old)) (Some (files_of self.new)) name.now }

@@ -23,7 +23,7 @@ pub enum ShelfFault {
 /// Why a write refuses.
 #[derive(Clone, Copy, Debug, PartialEq, Eq)]
 pub enum SinkFault {
-    /// The outside failed; the sink's count rose.
+    /// The outside failed; the sink's count rose, or stands at its greatest value.
     Failed,
     /// Want of memory.
     Memory,
@@ -37,14 +37,16 @@ pub trait Shelf {
     /// How many calls failed.
     ghost faults: { Self → Counts };
 
-    /// Appends the file's bytes and changes no file. A name that is not there is a fault. After a refusal `into` is as before.
+    /// Appends the file's bytes and changes no file. A name that is not there is a fault. After a refusal `into` is as
+    /// before; Failed raises the count of this name's fetches, and no other count changes.
     fn fetch(&mut self, name: &str, into: &mut Vec<u8>) -> Result<(), ShelfFault>
         ensures same { files self.new ≡ files self.old }
         ensures bytes { OnOk result (Fetches (files self.old) name.now into.old.items into.new.items) }
         ensures refused { OnErr result (into.new.items ≡ into.old.items) }
         ensures counts { Counted Fetch name.now (faults self.old) (faults self.new) result };
 
-    /// Makes the file hold exactly these bytes. After a fault the file may hold any bytes; every other file is as before.
+    /// Makes the file hold exactly these bytes; every other file is as before. After Failed the file may hold any bytes,
+    /// after want of memory every file is as before.
     fn store(&mut self, name: &str, bytes: &[u8]) -> Result<(), ShelfFault>
         ensures stored { OnOk result (Stores (files self.old) (files self.new) name.now bytes.now) }
         ensures failed { result ≡ Err ShelfFault.Failed → KeepsOthers (files self.old) (files self.new) name.now }
@@ -60,7 +62,8 @@ pub trait Sink {
     /// How many writes failed, or the greatest number of 64 bits.
     ghost faults: { Self → ℕ };
 
-    /// Appends the whole piece; after a refusal a prefix of it was appended.
+    /// Appends the whole piece; after a refusal a prefix of it was appended. After Failed the count rose, or stands at
+    /// its greatest value.
     fn write(&mut self, bytes: &[u8]) -> Result<(), SinkFault>
         ensures all { OnOk result (Appends (written self.old) (written self.new) bytes.now) }
         ensures part { OnErr result (AppendsPart (written self.old) (written self.new) bytes.now) }

@@ -19,7 +19,7 @@ impl Turns {
         Turns { numbers, calls: 0 }
     }
 
-    /// Whether the call that comes now is to fail; it is counted.
+    /// Whether the call that comes now is to fail; it is counted, up to the greatest number of 64 bits.
     pub fn next_is_due(&mut self) -> bool
         ensures due { result ≡ is_due self.old }
         ensures turn { OneMore self.old self.new }

@@ -126,10 +126,11 @@ fn judge<D: Domain>(
     }
 }
 
-/// What a section is worth for the problem of its goal; for the side Forall the dual is checked. Unclaimed comes exactly
-/// where the section claims nothing. Rejected names the first line of the file that is not in order: the turns, else the
-/// first tree line that is the 1,048,577th node or has a move that is not in lowest form or not within the cap, else the
-/// first line of the proof that breaks its rule.
+/// What a section that can be written, with a line below 2^63, is worth for the problem of its goal; refuses only for
+/// memory. For the side Forall the dual is checked. Accepted comes exactly where the section proves its claim,
+/// Unclaimed exactly where it claims nothing. Rejected names the first line of the file that is not in order: the
+/// turns, else the first tree line that is the 1,048,577th node or has a move that is not in lowest form or not within
+/// the cap, else the first line of the proof that breaks its rule.
 pub fn check_goal<D: Domain>(
     alloc: Global,
     problem: &Problem<D>,

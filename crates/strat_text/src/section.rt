@@ -57,7 +57,8 @@ impl Sections {
         }
     }
 
-    /// One more section at the end; refuses only for memory, and then drops the section.
+    /// One more section at the end; refuses only for memory, and then the sections are as before, and the new one is
+    /// dropped.
     pub fn push(&mut self, section: Section) -> Result<(), Memory>
         ensures ok { OnOk result (self.new ≡ self.old ++ section ∷ []) }
         ensures err { OnErr result (self.new ≡ self.old) }

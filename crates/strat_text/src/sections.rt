@@ -156,7 +156,8 @@ fn file(alloc: Global, at: Cursor<'_>) -> Result<Sections, FileFault>
     Ok(all)
 }
 
-/// The sections that the bytes spell, each with its line; else the first word that does not fit.
+/// The sections that the bytes spell, each with its line, below 2^63; else `Bad` with the line and the word of the
+/// first fault, or `Memory`, which no clause ties to the bytes.
 pub fn read_file(alloc: Global, bytes: &[u8]) -> Result<Sections, FileFault>
     // What is read is spelled so.
     ensures found { IfOk result (λ xs. Spells bytes.now xs) }

@@ -299,7 +299,7 @@ fn put_sections(out: &mut Vec<u8>, sections: &[Section]) -> Result<(), AllocErro
     Ok(())
 }
 
-/// The one spelling of the sections; refuses only for memory.
+/// The one spelling of sections that can be written (`AreSections`); refuses only for memory.
 pub fn write_file(alloc: Global, sections: &Sections) -> Result<Vec<u8>, Memory>
     requires { AreSections sections.now }
     ensures value { IfOk result (λ v. v.items ≡ spelled.spelling sections.now) }

@@ -6,7 +6,7 @@ ghost use Rattle.strat_words.specs.Spelled as spelled;
 use itoa::Buffer;
 use std::alloc::AllocError;
 
-/// Writes a space and the number.
+/// Writes a space and the number behind what was written; refuses only for memory, and then nothing is said of `out`.
 pub fn put_natural(out: &mut Vec<u8>, n: u64) -> Result<(), AllocError>
     ensures { OnOk result (out.new.items ≡ out.old.items ++ spelled.natural n) }
 {
@@ -16,7 +16,8 @@ pub fn put_natural(out: &mut Vec<u8>, n: u64) -> Result<(), AllocError>
     Ok(())
 }
 
-/// Writes a space and the number, with a minus where it is negative.
+/// Writes a space and the number, with a minus where it is negative, behind what was written; refuses only for memory,
+/// and then nothing is said of `out`.
 pub fn put_signed(out: &mut Vec<u8>, z: i128) -> Result<(), AllocError>
     ensures { OnOk result (out.new.items ≡ out.old.items ++ spelled.signed z) }
 {

@@ -12,8 +12,8 @@ use crate::fault::FileFault;
 use crate::number::{coef_of, natural_of, signed_of};
 use crate::words::{last_fault, next};
 
-/// The next word as a number without a sign, from `low` to below `limit`.
-/// Another word is the fault, and so is a missing one.
+/// The next word as a number without a sign, from `low` to below `limit`, of at most 32 digits and no 0 in front of
+/// others. Another word is the fault itself; a missing or empty one is that of `next`.
 pub fn natural(at: Cursor<'_>, low: u128, limit: u128) -> Result<(u128, Cursor<'_>), FileFault>
     ensures gives { Gives (λ x. (x.0, spot x.1)) result (spec.natural low limit (spot at.entry)) }
     ensures least { IfOk result (λ x. low ≤ x.0) }
@@ -28,8 +28,9 @@ pub fn natural(at: Cursor<'_>, low: u128, limit: u128) -> Result<(u128, Cursor<'
     }
 }
 
-/// The next word as a number with or without a sign, of a size below `limit`.
-/// Another word is the fault, and so is a missing one.
+/// The next word as a number with or without a minus, of a size below `limit`, which is at most 2^127; at most 32
+/// digits, no 0 in front of others and no `-0`. Another word is the fault itself; a missing or empty one is that of
+/// `next`.
 pub fn signed(at: Cursor<'_>, limit: u128) -> Result<(i128, Cursor<'_>), FileFault>
     requires { limit ≤ 2 ^ 127 }
     ensures gives { Gives (λ x. (x.0, spot x.1)) result (spec.signed limit (spot at.entry)) }
@@ -50,7 +51,7 @@ const PAST_CAP: u128 = 4_503_599_627_370_497;
 /// One past the greatest index.
 const PAST_INDEX: u128 = 4_294_967_296;
 
-/// The next word as an index, below 2^32.
+/// The next word as an index, below 2^32; faults as those of `natural`.
 pub fn index(at: Cursor<'_>) -> Result<(u32, Cursor<'_>), FileFault>
     ensures gives { Gives (λ x. (x.0, spot x.1)) result (spec.index (spot at.entry)) }
     ensures shorter { IfOk result (λ x. length x.1.rest.now < length at.entry.rest.now) }
@@ -60,7 +61,7 @@ pub fn index(at: Cursor<'_>) -> Result<(u32, Cursor<'_>), FileFault>
     Ok((n as u32, after))
 }
 
-/// The next word as a count, from `low` to the cap.
+/// The next word as a count, from `low` to the cap 2^52; faults as those of `natural`.
 pub fn count(at: Cursor<'_>, low: u128) -> Result<(u64, Cursor<'_>), FileFault>
     ensures gives { Gives (λ x. (x.0, spot x.1)) result (spec.count low (spot at.entry)) }
     ensures least { IfOk result (λ x. low ≤ x.0) }
@@ -72,7 +73,7 @@ pub fn count(at: Cursor<'_>, low: u128) -> Result<(u64, Cursor<'_>), FileFault>
     Ok((n as u64, after))
 }
 
-/// The next word as a number within the cap, `-2^52..=2^52`.
+/// The next word as a number within the cap, `-2^52..=2^52`; faults as those of `signed`.
 pub fn kept(at: Cursor<'_>) -> Result<(i64, Cursor<'_>), FileFault>
     ensures gives { Gives (λ x. (x.0, spot x.1)) result (spec.kept (spot at.entry)) }
     ensures within { IfOk result (λ x. nat_abs x.0 ≤ cap) }
@@ -83,7 +84,7 @@ pub fn kept(at: Cursor<'_>) -> Result<(i64, Cursor<'_>), FileFault>
     Ok((z as i64, after))
 }
 
-/// The next word as a number other than 0 within the cap.
+/// The next word as a number other than 0 within the cap, `-2^52..=2^52`; faults as those of `signed`, and a 0 is one.
 pub fn coef(at: Cursor<'_>) -> Result<(i64, Cursor<'_>), FileFault>
     ensures gives { Gives (λ x. (x.0, spot x.1)) result (spec.coef (spot at.entry)) }
     ensures shorter { IfOk result (λ x. length x.1.rest.now < length at.entry.rest.now) }

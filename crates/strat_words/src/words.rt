@@ -21,7 +21,7 @@ fn word_len(z: &[u8]) -> usize
         .count()
 }
 
-/// The start of a file.
+/// The start of a file: all its bytes to come, line 1, no word taken.
 pub fn start(bytes: &[u8]) -> Cursor<'_>
     ensures { spot result ≡ start bytes.now }
 {
@@ -73,7 +73,8 @@ fn word_at<'a>(at: Cursor<'a>, z: &'a [u8]) -> Result<Word<'a>, FileFault>
     Ok((word, behind))
 }
 
-/// The first word of a line.
+/// The first word of a line, up to a space, a line feed or the end, and the place behind it.
+/// Where it is empty, the fault is the word after those that were taken (`next_fault`).
 pub fn first(at: Cursor<'_>) -> Result<Word<'_>, FileFault>
     ensures gives { Gives (λ w. (w.0.now, spot w.1)) result (first (spot at.entry)) }
     ensures shorter { IfOk result (λ w. length w.1.rest.now < length at.entry.rest.now) }
@@ -82,7 +83,8 @@ pub fn first(at: Cursor<'_>) -> Result<Word<'_>, FileFault>
     word_at(at, at.rest)
 }
 
-/// A further word of a line.
+/// A further word of a line, behind one space, and the place behind it. Where no space stands here or the word is
+/// empty, the fault is the word after those that were taken (`next_fault`).
 #[tactic(auto, unfolding(crate::specs::Spot::next))]
 pub fn next(at: Cursor<'_>) -> Result<Word<'_>, FileFault>
     ensures gives { Gives (λ w. (w.0.now, spot w.1)) result (next (spot at.entry)) }
@@ -95,7 +97,8 @@ pub fn next(at: Cursor<'_>) -> Result<Word<'_>, FileFault>
     }
 }
 
-/// The end of a line.
+/// The place behind a line feed: the next line, no word taken. Where none stands here, the fault is the word after
+/// those that were taken (`next_fault`).
 #[tactic(auto, unfolding(crate::specs::Spot::ends))]
 pub fn ends(at: Cursor<'_>) -> Result<Cursor<'_>, FileFault>
     ensures gives { Gives spot result (ends (spot at.entry)) }
@@ -112,7 +115,7 @@ pub fn ends(at: Cursor<'_>) -> Result<Cursor<'_>, FileFault>
     }
 }
 
-/// Whether a further word begins here.
+/// Whether a space stands here, behind which a further word would begin.
 pub fn goes_on(at: Cursor<'_>) -> bool
     ensures { result ≡ goes_on (spot at.entry) }
 {
@@ -122,7 +125,7 @@ pub fn goes_on(at: Cursor<'_>) -> bool
     }
 }
 
-/// Whether a further word begins here with a digit or a minus, as a number does.
+/// Whether a space stands here and a digit or a minus behind it, as a number begins.
 pub fn number_follows(at: Cursor<'_>) -> bool
     ensures { result ≡ number_follows (spot at.entry) }
 {
@@ -132,7 +135,7 @@ pub fn number_follows(at: Cursor<'_>) -> bool
     }
 }
 
-/// The same place, where the line has no further word; else the fault of that word.
+/// The same place, where no space stands here; else the fault is the word after those that were taken (`next_fault`).
 pub fn no_more(at: Cursor<'_>) -> Result<Cursor<'_>, FileFault>
     ensures gives { Gives spot result (no_more (spot at.entry)) }
     ensures place { IfErr result (λ e. e ≢ Memory) }
@@ -157,7 +160,8 @@ fn known<'a>(taken: Word<'a>, known: &[u8]) -> Result<Cursor<'a>, FileFault>
     }
 }
 
-/// The place behind the first word of a line, which is a given one.
+/// The place behind the first word of a line, which is a given one. Another word is the fault itself; an empty one is
+/// that of `first`.
 pub fn first_is<'a>(at: Cursor<'a>, word: &[u8]) -> Result<Cursor<'a>, FileFault>
     ensures gives { Gives spot result (is word.now (first (spot at.entry))) }
     ensures shorter { IfOk result (λ a. length a.rest.now < length at.entry.rest.now) }
@@ -167,7 +171,8 @@ pub fn first_is<'a>(at: Cursor<'a>, word: &[u8]) -> Result<Cursor<'a>, FileFault
     known(taken, word)
 }
 
-/// The same of a further word.
+/// The place behind a further word of a line, which is a given one. Another word is the fault itself; a missing or
+/// empty one is that of `next`.
 pub fn next_is<'a>(at: Cursor<'a>, word: &[u8]) -> Result<Cursor<'a>, FileFault>
     ensures gives { Gives spot result (is word.now (next (spot at.entry))) }
     ensures shorter { IfOk result (λ a. length a.rest.now < length at.entry.rest.now) }

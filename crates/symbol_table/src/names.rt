@@ -67,7 +67,7 @@ impl<'a> Names<'a> {
         self.rows.len()
     }
 
-    /// What the newest of this name stands for.
+    /// What the newest name that is spelled so stands for; None exactly where there is none.
     pub fn find(&self, name: &[u8]) -> Option<Known>
         ensures { result ≡ looked_up self.now name.now }
     {
@@ -81,7 +81,8 @@ impl<'a> Names<'a> {
         Some(self.rows[row as usize - 1].known)
     }
 
-    /// Adds a name, which hides those that are spelled alike. After want of memory the names are as before.
+    /// Adds a name, which hides those that are spelled alike. Refuses only for memory, and then the names are as
+    /// before.
     pub fn push(&mut self, name: &'a [u8], known: Known) -> Result<(), ScriptFault>
         ensures ok { OnOk result (self.new ≡ (name.entry.now, known) ∷ self.old) }
         ensures memory { IfErr result (λ e. e ≡ Memory) }
@@ -123,7 +124,7 @@ impl<'a> Names<'a> {
         }
     }
 
-    /// Takes the newest names away until this many are left.
+    /// Takes the newest names away until this many are left; where there are fewer, none.
     pub fn truncate(&mut self, len: usize)
         ensures { self.new ≡ drop (length self.old - len) self.old }
     {

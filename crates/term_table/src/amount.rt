@@ -39,7 +39,8 @@ impl Amount {
         depth: 0,
     };
 
-    /// Both together.
+    /// Both together: the counts are added, and the depth is the greater one. A number past the greatest u32 stays
+    /// there.
     pub fn plus(self, other: Amount) -> Amount
         ensures { result ≡ record { nodes = sat (self.nodes + other.nodes); bindings = sat (self.bindings + other.bindings); free = sat (self.free + other.free); depth = max self.depth other.depth } }
     {
@@ -51,7 +52,8 @@ impl Amount {
         }
     }
 
-    /// As a part that counts so.
+    /// As a part that counts so: its counts that often, its depth behind the way to it, 0 where one of these is 0. A
+    /// number past the greatest u32 stays there.
     pub fn scaled(self, weight: Weight) -> Amount
         ensures { result ≡ record { nodes = sat (weight.times * self.nodes); bindings = sat (weight.times * self.bindings); free = sat (weight.times * self.free); depth = sat (joined weight.way self.depth) } }
     {
@@ -65,7 +67,7 @@ impl Amount {
 }
 
 impl Weight {
-    /// Where a part stands in both ways.
+    /// Where a part stands in both ways: added times, the longer way. A number past the greatest u32 stays there.
     pub fn plus(self, other: Weight) -> Weight
         ensures { result ≡ record { times = sat (self.times + other.times); way = max self.way other.way } }
     {
@@ -75,7 +77,8 @@ impl Weight {
         }
     }
 
-    /// A part of a part.
+    /// A part of a part: multiplied times, the way through both, 0 where one of these is 0. A number past the greatest
+    /// u32 stays there.
     pub fn of(self, inner: Weight) -> Weight
         ensures { result ≡ record { times = sat (self.times * inner.times); way = sat (joined self.way inner.way) } }
     {

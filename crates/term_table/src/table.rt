@@ -74,8 +74,9 @@ impl Table {
         self.entries.len()
     }
 
-    /// Adds an entry and gives its place. The parts of the node are entries already. A use of a definition whose body is
-    /// one of its parameters adds none, and gives the place of the argument.
+    /// The place of an entry that stands for the node, whose parts are entries already: a new one, or one that was
+    /// there. Every older entry keeps its meaning. Refuses only for memory; then too the older entries are as they
+    /// were.
     pub fn add(&mut self, node: Node) -> Result<u32, AllocError>
         requires { HasParts (length self.old) node }
         ensures gives { IfOk result (λ i. IsAt self.new i (meaning (meanings self.old) node)) }
@@ -94,7 +95,7 @@ impl Table {
         Ok(at as u32)
     }
 
-    /// The size of the term of an entry outside of definitions.
+    /// The size of the term of an entry outside of definitions. The entry is below `len`.
     pub fn size(&self, entry: u32) -> Size
         requires { entry < length self.now }
         ensures nodes { (n : ℕ) → result.nodes ≡ min 1048577 (node_count (tree_at (meanings self.now) entry top n)) }
@@ -105,7 +106,8 @@ impl Table {
         cut(form.size())
     }
 
-    /// What is known of an entry as a constant term, where nothing is given for the parameters of definitions.
+    /// What is known of an entry as a constant term, where nothing is given for the parameters of definitions. The
+    /// entry is below `len`.
     pub fn worth(&self, entry: u32) -> Worth
         requires { entry < length self.now }
         ensures { result ≡ worth_of (tree_at (meanings self.now) entry top 0) }
@@ -116,7 +118,8 @@ impl Table {
     }
 
     /// The term of an entry outside of definitions, below so many variables, with `let` and definitions put in as whole
-    /// trees. Ask its size first: it takes memory for each of its nodes.
+    /// trees; a number that is not below `len` gives `false`. Refuses only for memory. Ask its size first: it takes
+    /// memory for each of its nodes.
     pub fn tree(&self, entry: u32, above: u32) -> Result<Term, AllocError>
         ensures { IfOk result (λ t. tree_of t ≡ tree_at (meanings self.now) entry top above) }
     {
