@@ -19,7 +19,7 @@ use Rattle.simcheck.specs.Worth.{IsProved}
 abbrev pub answer_of : Report → Answer
 answer_of report = record { status = report.status; text = report.text.items }
 
--- once the script is read; the file is fetched only where the script has no fault
+-- once the script is read; where it has a fault, the file does not matter
 abbrev pub AnswersGames : Option Files → List ℕ → List ℕ → Result Games ScriptFault → Answer → Type 0
 AnswersGames told script file (Err fault) answer = answer ≡ refusal fault
 AnswersGames told script file (Ok g) answer = (bytes : List ℕ) × Tells told file bytes × (answer ≡ judged g bytes) × IsProved script bytes

@@ -1,4 +1,4 @@
--- What a verdict is worth: a goal that is said to be accepted has its strategy in the file, and is true or false as claimed.
+-- What a verdict is worth: a goal that is said to be accepted has its proof in the file, and is true or false as claimed.
 use Rattle.std.specs.Prelude.{ℕ, ◌≡◌, List, [], ◌∷◌, length, Ok, ⊤}
 use Rattle.lin_term.specs.declared.Sort.{Sort}
 use Rattle.dom_core.specs.declared.Side.{Side}
