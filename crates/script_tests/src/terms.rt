@@ -72,6 +72,19 @@ fn ratio(alloc: Global, num: i64, den: i64) -> Result<String, AllocError> {
     format!(in alloc; "{num}/{den}")
 }
 
+// The parenthesis and the operator of a term with two arguments.
+fn opening(term: &Term) -> &'static str {
+    match term {
+        Term::Minus(_, _) => "(-",
+        Term::Less(_, _) => "(<",
+        Term::AtMost(_, _) => "(<=",
+        Term::Equal(_, _) => "(=",
+        Term::Xor(_, _) => "(xor",
+        Term::Implies(_, _) => "(=>",
+        _ => "(another",
+    }
+}
+
 // A blank, and then the term, where it has no other operators than those of the table of terms.
 #[cycle(put)]
 fn put(alloc: Global, out: &mut String, term: &Term) -> Result<(), AllocError> {
@@ -91,16 +104,23 @@ fn put(alloc: Global, out: &mut String, term: &Term) -> Result<(), AllocError> {
             let text = format!(in alloc; "(divisible {n}")?;
             put_one(alloc, out, text.as_str(), a.get())
         }
-        Term::Minus(a, b) => put_two(alloc, out, "(-", a.get(), b.get()),
-        Term::Less(a, b) => put_two(alloc, out, "(<", a.get(), b.get()),
-        Term::AtMost(a, b) => put_two(alloc, out, "(<=", a.get(), b.get()),
-        Term::Equal(a, b) => put_two(alloc, out, "(=", a.get(), b.get()),
-        Term::Xor(a, b) => put_two(alloc, out, "(xor", a.get(), b.get()),
-        Term::Implies(a, b) => put_two(alloc, out, "(=>", a.get(), b.get()),
+        Term::Minus(a, b)
+        | Term::Less(a, b)
+        | Term::AtMost(a, b)
+        | Term::Equal(a, b)
+        | Term::Xor(a, b)
+        | Term::Implies(a, b) => {
+            out.push_str(opening(term))?;
+            put(alloc, out, a.get())?;
+            put(alloc, out, b.get())?;
+            out.push_str(")")
+        }
         Term::Ite(c, a, b) => {
             out.push_str("(ite")?;
             put(alloc, out, c.get())?;
-            put_two(alloc, out, "", a.get(), b.get())
+            put(alloc, out, a.get())?;
+            put(alloc, out, b.get())?;
+            out.push_str(")")
         }
         Term::Plus(parts) => put_all(alloc, out, "(+", parts.as_slice()),
         Term::And(parts) => put_all(alloc, out, "(and", parts.as_slice()),
@@ -120,20 +140,6 @@ fn put(alloc: Global, out: &mut String, term: &Term) -> Result<(), AllocError> {
 fn put_one(alloc: Global, out: &mut String, word: &str, a: &Term) -> Result<(), AllocError> {
     out.push_str(word)?;
     put(alloc, out, a)?;
-    out.push_str(")")
-}
-
-#[cycle(put)]
-fn put_two(
-    alloc: Global,
-    out: &mut String,
-    word: &str,
-    a: &Term,
-    b: &Term,
-) -> Result<(), AllocError> {
-    out.push_str(word)?;
-    put(alloc, out, a)?;
-    put(alloc, out, b)?;
     out.push_str(")")
 }
 
