@@ -65,14 +65,22 @@ LIA (assert (= (abs x) 1.0)) ==> Sort 1 20
 ";
 
 // A whole number, or a fraction.
-fn ratio(alloc: Global, num: i64, den: i64) -> Result<String, AllocError> {
-    if den == 1 {
-        return format!(in alloc; "{num}");
-    }
-    format!(in alloc; "{num}/{den}")
+fn put_ratio(alloc: Global, out: &mut String, num: i64, den: i64) -> Result<(), AllocError> {
+    let text = if den == 1 {
+        format!(in alloc; "{num}")?
+    } else {
+        format!(in alloc; "{num}/{den}")?
+    };
+    out.push_str(text.as_str())
 }
 
-// The parenthesis and the operator of a term with two arguments.
+// A variable by its place.
+fn put_place(alloc: Global, out: &mut String, place: u32) -> Result<(), AllocError> {
+    let text = format!(in alloc; "v{place}")?;
+    out.push_str(text.as_str())
+}
+
+// The parenthesis and the word of a term with two arguments or of a binder.
 fn opening(term: &Term) -> &'static str {
     match term {
         Term::Minus(_, _) => "(-",
@@ -81,6 +89,8 @@ fn opening(term: &Term) -> &'static str {
         Term::Equal(_, _) => "(=",
         Term::Xor(_, _) => "(xor",
         Term::Implies(_, _) => "(=>",
+        Term::Forall(_, _) => "(forall",
+        Term::Exists(_, _) => "(exists",
         _ => "(another",
     }
 }
@@ -91,14 +101,8 @@ fn put(alloc: Global, out: &mut String, term: &Term) -> Result<(), AllocError> {
     out.push_str(" ")?;
     match term {
         Term::True => out.push_str("true"),
-        Term::Number { num, den } => {
-            let text = ratio(alloc, *num, *den)?;
-            out.push_str(text.as_str())
-        }
-        Term::Var(place) => {
-            let text = format!(in alloc; "v{place}")?;
-            out.push_str(text.as_str())
-        }
+        Term::Number { num, den } => put_ratio(alloc, out, *num, *den),
+        Term::Var(place) => put_place(alloc, out, *place),
         Term::Not(a) => put_one(alloc, out, "(not", a.get()),
         Term::Divisible(n, a) => {
             let text = format!(in alloc; "(divisible {n}")?;
@@ -124,12 +128,8 @@ fn put(alloc: Global, out: &mut String, term: &Term) -> Result<(), AllocError> {
         }
         Term::Plus(parts) => put_all(alloc, out, "(+", parts.as_slice()),
         Term::And(parts) => put_all(alloc, out, "(and", parts.as_slice()),
-        Term::Forall(sorts, body) => {
-            let text = format!(in alloc; "(forall {}", sorts.len())?;
-            put_one(alloc, out, text.as_str(), body.get())
-        }
-        Term::Exists(sorts, body) => {
-            let text = format!(in alloc; "(exists {}", sorts.len())?;
+        Term::Forall(sorts, body) | Term::Exists(sorts, body) => {
+            let text = format!(in alloc; "{} {}", opening(term), sorts.len())?;
             put_one(alloc, out, text.as_str(), body.get())
         }
         _ => out.push_str("another"),
