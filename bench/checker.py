@@ -16,6 +16,9 @@ The checker is the one that `rt run` leaves in crates/simcheck/out. GROUP is one
     wide    a script of about as many bytes over 1,024 declared constants, each assertion a sum of twenty products
     rows    a strategy file of about as many bytes in which each move has 999 coefficients, and its definition a line
     long    a proof of as many `sum` lines, each over rows of 20 coefficients
+    choices a sum of as many choices, compared with a variable that is doubled as many times
+    learn   a proof of as many `learn` lines of so many literals, each disjunction used once
+    learnt  one `learn` line of so many literals, used as many times
 Instructions are counted by `valgrind --tool=callgrind`, peak memory by GNU time.
 """
 import argparse
@@ -123,6 +126,45 @@ def long(n):
     return text, file, n
 
 
+def choices(n):
+    text = "(set-logic LRA)\n(declare-const b Bool)\n(declare-const x Real)\n(define-fun d0 () Real x)\n"
+    text += "".join(f"(define-fun d{k} () Real (+ d{k - 1} d{k - 1}))\n" for k in range(1, n + 1))
+    text += "(assert (< (+" + " (ite b 1 2)" * n + f" 0) d{n}))\n(check-sat)\n"
+    return text, UNKNOWN, 2**n
+
+
+HEAD_2 = HEAD.replace("strategy 1", "strategy 2")
+
+
+def disjunction(k):
+    # false literals, and one that is true
+    return "learn" + " >= -1" * (k - 1) + " >= 0\n"
+
+
+def used(fact, facts, k):
+    # all cases but the last are closed at once; the last has one more fact
+    return f"cases {fact} {k}\n" + f"false {facts}\n" * (k - 1) if k > 1 else ""
+
+
+def by_learning(lines, facts):
+    lines = "path 0\ndef 1 0\n" + lines + f"sum 1 0 1 1 1\nfalse {facts}\n"
+    count = lines.count("\n")
+    return OPEN_END, f"{HEAD_2}o 1\nm 1 1 1 0\nproof {count}\n{lines}end\n", count
+
+
+def learn(n, k):
+    lines, facts = [], 2
+    for _ in range(n):
+        lines.append(disjunction(k) + f"false {facts + k - 1}\n" + used(facts, facts + 1, k))
+        facts += 2 if k > 1 else 1
+    return by_learning("".join(lines), facts)
+
+
+def learnt(n, k):
+    lines = [disjunction(k) + f"false {2 + k - 1}\n"] + [used(2, 3 + i, k) for i in range(n)]
+    return by_learning("".join(lines), 3 + n if k > 1 else 3)
+
+
 GROUPS = {
     "sums": (sums, (1000, 10000, 100000)),
     "paths": (paths, (1000, 10000, 100000)),
@@ -136,6 +178,9 @@ GROUPS = {
     "wide": (wide, (1000000, 10000000)),
     "rows": (rows, (1000000, 10000000)),
     "long": (long, (10000, 100000)),
+    "choices": (choices, (8, 12, 16)),
+    "learn": (learn, ((100, 3), (1000, 3), (10000, 3), (100000, 3), (10000, 1), (10000, 10), (10000, 30))),
+    "learnt": (learnt, ((100, 3), (1000, 3), (10000, 3), (100000, 3), (10000, 10), (10000, 30))),
 }
 
 
@@ -166,7 +211,7 @@ def main():
         for group in chosen.groups:
             make, sizes = GROUPS[group]
             for size in sizes:
-                units, size_in, count, memory, printed = measure(chosen.checker, folder, make(size))
+                units, size_in, count, memory, printed = measure(chosen.checker, folder, make(*size) if isinstance(size, tuple) else make(size))
                 print(f"| {group} {size} | {size_in} | {count} | {count / units:.1f} | {memory} | {printed} |", flush=True)
 
 

@@ -1,66 +1,26 @@
--- Literals compared number by number, and what the tests of a literal say.
-use Rattle.std.specs.Prelude.{ℕ, ◌≡◌, ℤ, pos, true, false, ◌&&◌, nat_lt, nat_eq, Some, None, Err, List, [], ◌∷◌, Decides}
+-- What the tests of a literal say.
+use Rattle.std.specs.Prelude.{ℕ, ◌≡◌, ℤ, pos, true, false, ◌&&◌, nat_lt, Some, None, Err, List, [], ◌∷◌}
 use Rattle.std.specs.List.{list_all}
-use Rattle.std.specs.Ordering.{int_eq}
-use Rattle.std.proofs.Common.{ap, ap₂, subst, refl, inl, inr}
+use Rattle.std.proofs.Common.{ap, subst, refl, inl, inr}
 use Rattle.std.proofs.lemmas.Bool.{and_parts, cases_Bool, leb-true}
-use Rattle.std.proofs.lemmas.Bool.Decides.{Decides-and, Decides-like, Decides-eqb, Decides-int_eq}
 use Rattle.lin_term.specs.declared.Sort.{Sort}
 use Rattle.lin_term.specs.declared.Sort.TheVariants.{Rat, Int}
 use Rattle.lin_term.specs.declared.Lit.{Lit}
 use Rattle.lin_term.specs.declared.Lit.TheVariants.{AtLeast, Above, Divides, NotDivides}
-use Rattle.lin_term.specs.Form.{Form}
 use Rattle.lin_term.specs.Literal.{IsPrimitive, IsOf, prim}
 use Rattle.lin_term.specs.Primable.{IsPrimable}
 use Rattle.lin_term.specs.declared.Short.{Short}
 use Rattle.lin_term.specs.declared.Short.TheVariants.{Fault}
 use Rattle.lin_term.specs.declared.Wide.{Wide}
 use Rattle.lin_term.specs.Wide.{first_past, lit_numbers, form_numbers, Capped}
+use Rattle.lin_term.specs.Same.{same_literal}
 use Rattle.lin_term.proofs.Capping.{past-head}
-use Rattle.cube_rules.specs.Facts.{is_of, same_terms, same_form, same_literal, is_primitive, all_below}
-
--- two lists of terms are the same where each number is
-pub terms_decide : (ts us : List (ℕ × ℤ)) → Decides (same_terms ts us) (ts ≡ us)
-terms_decide [] [] = (λ e. refl, λ e. refl)
-terms_decide [] (u ∷ us) = (λ e. absurd (cc), λ e. absurd (cc))
-terms_decide (t ∷ ts) [] = (λ e. absurd (cc), λ e. absurd (cc))
-terms_decide (t ∷ ts) (u ∷ us) =
-    Decides-like (same_terms (t ∷ ts) (u ∷ us))
-    (λ h. ap₂ (λ (x : ℕ × ℤ) (xs : List (ℕ × ℤ)). x ∷ xs) (ap₂ (λ (i : ℕ) (z : ℤ). let x : ℕ × ℤ = (i, z) in x) h.0.0 h.0.1) h.1)
-    (λ e. let first : t ≡ u = cc in let rest : ts ≡ us = cc in ((ap (λ (x : ℕ × ℤ). x.0) first, ap (λ (x : ℕ × ℤ). x.1) first), rest))
-    (Decides-and (nat_eq t.0 u.0 && int_eq t.1 u.1) (same_terms ts us) (Decides-and (nat_eq t.0 u.0) (int_eq t.1 u.1) (Decides-eqb t.0 u.0) (Decides-int_eq t.1 u.1)) (terms_decide ts us))
-
-form_is : (f g : Form) → same_form f g ≡ true → f ≡ g
-form_is f g e =
-    let a = and_parts (same_terms f.terms g.terms) (int_eq f.constant g.constant) e in
-    let d = terms_decide f.terms g.terms in
-    let i = Decides-int_eq f.constant g.constant in
-    ap₂ (λ (ts : List (ℕ × ℤ)) (c : ℤ). let x : Form = record { terms = ts; constant = c } in x) (d.0 a.0) (i.0 a.1)
-
-modulus_is : (d e : ℕ) (f g : Form) → (nat_eq d e && same_form f g) ≡ true → (d ≡ e) × (f ≡ g)
-modulus_is d e f g h =
-    let a = and_parts (nat_eq d e) (same_form f g) h in
-    let i = Decides-eqb d e in
-    (i.0 a.0, form_is f g a.1)
+use Rattle.lin_term.proofs.Comparing.{literal_decides}
+use Rattle.cube_rules.specs.Facts.{is_of, is_primitive, all_below}
 
 -- literals that compare as the same are the same
 pub literal_is : (l k : Lit) → same_literal l k ≡ true → l ≡ k
-literal_is (AtLeast f) (AtLeast g) h = ap AtLeast (form_is f g h)
-literal_is (AtLeast f) (Above g) h = absurd (cc)
-literal_is (AtLeast f) (Divides e g) h = absurd (cc)
-literal_is (AtLeast f) (NotDivides e g) h = absurd (cc)
-literal_is (Above f) (AtLeast g) h = absurd (cc)
-literal_is (Above f) (Above g) h = ap Above (form_is f g h)
-literal_is (Above f) (Divides e g) h = absurd (cc)
-literal_is (Above f) (NotDivides e g) h = absurd (cc)
-literal_is (Divides d f) (AtLeast g) h = absurd (cc)
-literal_is (Divides d f) (Above g) h = absurd (cc)
-literal_is (Divides d f) (Divides e g) h = let m = modulus_is d e f g h in ap₂ Divides m.0 m.1
-literal_is (Divides d f) (NotDivides e g) h = absurd (cc)
-literal_is (NotDivides d f) (AtLeast g) h = absurd (cc)
-literal_is (NotDivides d f) (Above g) h = absurd (cc)
-literal_is (NotDivides d f) (Divides e g) h = absurd (cc)
-literal_is (NotDivides d f) (NotDivides e g) h = let m = modulus_is d e f g h in ap₂ NotDivides m.0 m.1
+literal_is l k e = let d = literal_decides l k in d.0 e
 
 pub of_sort_is : (s : Sort) (l : Lit) → is_of s l ≡ true → IsOf s l
 of_sort_is Rat (AtLeast f) e = tt

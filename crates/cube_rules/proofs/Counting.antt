@@ -1,5 +1,5 @@
 -- When the cases of an elimination are as a line says.
-use Rattle.std.specs.Prelude.{ℕ, ◌≡◌, ℤ, pos, Bool, true, false, ◌&&◌, nat_eq, is_none, Option, Some, None, List, ◌++◌, map, length}
+use Rattle.std.specs.Prelude.{ℕ, ◌≡◌, ℤ, pos, Bool, true, false, ◌&&◌, nat_eq, is_none, Option, Some, List, ◌++◌, map, length}
 use Rattle.std.specs.List.{flat_map}
 use Rattle.std.proofs.Common.{ap, ◌∙◌, refl}
 use Rattle.lin_term.specs.declared.Sort.TheVariants.{Int}

@@ -1,6 +1,6 @@
 -- Each line is sound: at a point where the facts hold, the facts of one of the contexts that it leaves hold.
-use Prim.Native.Nat.{◌∣◌}
-use Rattle.std.specs.Prelude.{ℕ, zero, suc, ◌+◌, ◌*◌, ◌%◌, ◌<◌, ◌≤◌, ◌≡◌, ◌⊎◌, ℤ, pos, negsuc, ◌+ℤ◌, ◌*ℤ◌, ◌≤ℤ◌, ◌<ℤ◌, nat_abs, Bool, true, false, ◌&&◌, ◌||◌, not, nat_lt, nat_le, nat_eq, int_le, int_lt, is_none, Option, Some, None, option_and_then, option_map, slice_get, List, [], ◌∷◌, ◌++◌, map, length, ⊤}
+use Rattle.std.specs.Prelude.{ℕ, zero, suc, ◌*◌, ◌%◌, ◌≤◌, ◌≡◌, ℤ, pos, negsuc, ◌+ℤ◌, ◌*ℤ◌, ◌≤ℤ◌, ◌<ℤ◌, nat_abs, Bool, true, false, ◌&&◌, ◌||◌, not, nat_lt, nat_le, nat_eq, int_le, is_none, Option, Some, None, option_and_then, option_map, slice_get, List, [], ◌∷◌, ◌++◌, map, length, ⊤}
+use Rattle.std.specs.List.{list_all, AllByRecursion}
 use Rattle.std.proofs.Common.{arith, ap, ap₂, ◌∙◌, sym, subst, refl, inl, inr, true≢false}
 use Rattle.std.proofs.lemmas.Int.{ints}
 use Rattle.std.proofs.lemmas.Bool.{and_parts, not-false, eq-eqb, eqb-true}
@@ -10,10 +10,11 @@ use Rattle.lin_term.specs.declared.Sort.TheVariants.{Rat, Int}
 use Rattle.lin_term.specs.declared.Lit.{Lit}
 use Rattle.lin_term.specs.declared.Lit.TheVariants.{AtLeast, Above, Divides, NotDivides}
 use Rattle.lin_term.specs.Form.{Form}
-use Rattle.lin_term.specs.Linear.{Point, IsPoint, dot, plus, times, Below, BelowTerms}
+use Rattle.lin_term.specs.Linear.{Point, IsPoint, dot, plus, times, BelowTerms}
 use Rattle.lin_term.specs.Literal.{Holds, IsOf, prim, neg, divisor, form_of}
+use Rattle.lin_term.specs.Same.{same_literal}
 use Rattle.lin_term.specs.Sum.{sum_of, is_strict, inequality_with}
-use Rattle.lin_term.specs.Truth.{truth_of, truth_at, truth_without, divides_number}
+use Rattle.lin_term.specs.Truth.{truth_of, truth_at, truth_without}
 use Rattle.lin_term.specs.Wide.{first_past, lit_numbers}
 use Rattle.lin_term.proofs.Ring.{nonneg_mul, pos_mul, nonneg_from_mul, pos_from_mul}
 use Rattle.lin_term.proofs.Dots.{dot-plus, dot-times}
@@ -24,13 +25,13 @@ use Rattle.dom_core.specs.Cube.{CubeHolds, SomeHolds, IsCube}
 use Rattle.dom_core.specs.Elimination.{eliminated}
 use Rattle.dom_core.proofs.Renaming.{neg_is_matrix}
 use Rattle.dom_core.proofs.Cooper.{least_covers}
-use Rattle.cube_rules.proofs.Cases.{EachCube, cases_are}
+use Rattle.cube_rules.proofs.Cases.{cases_are}
 use Rattle.cube_rules.specs.declared.step.Step.{Step}
-use Rattle.cube_rules.specs.declared.step.Step.TheVariants.{Path, Def, Part, Cases, Sum, Split, Cube, Least, False}
+use Rattle.cube_rules.specs.declared.step.Step.TheVariants.{Path, Def, Part, Cases, Sum, Split, Cube, Least, Learn, False}
 use Rattle.cube_rules.specs.Context.{Context, with_fact, cube_context}
 use Rattle.cube_rules.specs.Closing.{Proof, line, Proofs, no_proof, proof, Rules, Closes, CloseAll}
-use Rattle.cube_rules.specs.Facts.{guard, child, count, and_child, or_children, literal_of, literal_at, literals_at, all_literals, is_inequality, is_of, is_primitive, same_literal, all_below}
-use Rattle.cube_rules.specs.Lines.{goes_on, each_child, cases_line, is_sum, sum_line, is_split, split_line, cube_line, is_least, least_cases, least_line, is_false, false_line, cube_step}
+use Rattle.cube_rules.specs.Facts.{guard, child, count, and_child, or_children, literal_of, literal_at, literals_at, all_literals, is_inequality, is_of, is_primitive, all_below}
+use Rattle.cube_rules.specs.Lines.{goes_on, each_child, cases_line, is_sum, sum_line, is_split, split_line, is_learn, leaves, either_of, learn_line, cube_line, is_least, least_cases, least_line, is_false, false_line, cube_step}
 
 -- ---- options that are Some
 
@@ -226,19 +227,70 @@ all_below_true n (t ∷ ts) e =
     let h = a.0 in
     (grind arith, all_below_true n ts a.1)
 
+-- what may be split upon is of the sort, and over the first n variables
+split_of_sort : (s : Sort) (n : ℕ) (l : Lit) → is_split s n l ≡ true → IsOf s l × BelowTerms n (form_of l).terms
+split_of_sort s n l e =
+    let r1 = and_parts (is_primitive s l && all_below n (form_of l).terms) (is_none (first_past (lit_numbers (neg s l)))) e in
+    let r2 = and_parts (is_primitive s l) (all_below n (form_of l).terms) r1.0 in
+    let r3 = and_parts (is_of s l) (same_literal (prim s l) l) r2.0 in
+    (is_of_true s l r3.0, all_below_true n (form_of l).terms r2.1)
+
 split_sound : (s : Sort) (p : Point) (n : ℕ) (c : Context) (l : Lit) (ks : List Context) → IsPoint s p → Facts s p c.facts → split_line s n c l ≡ Some ks → NoneHolds s p ks → ⊥
 split_sound s p n c l ks ip f e x =
     let g = guard_some (is_split s n l) (Some (with_fact c (lit l) ∷ with_fact c (lit (neg s l)) ∷ [])) ks e in
-    let r1 = and_parts (is_primitive s l && all_below n (form_of l).terms) (is_none (first_past (lit_numbers (neg s l)))) g.0 in
-    let r2 = and_parts (is_primitive s l) (all_below n (form_of l).terms) r1.0 in
-    let r3 = and_parts (is_of s l) (same_literal (prim s l) l) r2.0 in
-    let o : IsOf s l = is_of_true s l r3.0 in
-    let no = neg_is_matrix (lit l) s n (o, all_below_true n (form_of l).terms r2.1) in
+    let o = split_of_sort s n l g.0 in
+    let no = neg_is_matrix (lit l) s n o in
     let x' : NoneHolds s p (with_fact c (lit l) ∷ with_fact c (lit (neg s l)) ∷ []) = subst (λ (y : List Context). NoneHolds s p y) (sym (some_same (with_fact c (lit l) ∷ with_fact c (lit (neg s l)) ∷ []) ks g.1)) x in
     x'.1.0 (facts_push s p c.facts (lit (neg s l)) f (record {
       of_sort = no.0;
-      holds = neg_from s l p o ip (λ k. x'.0 (facts_push s p c.facts (lit l) f (record { of_sort = o; holds = k })));
+      holds = neg_from s l p o.0 ip (λ k. x'.0 (facts_push s p c.facts (lit l) f (record { of_sort = o.0; holds = k })));
     }))
+
+-- ---- a disjunction that is learnt
+
+facts_append : (s : Sort) (p : Point) (ms ns : List Matrix) → Facts s p ms → Facts s p ns → Facts s p (ms ++ ns)
+facts_append s p [] ns h k = k
+facts_append s p (m ∷ ms) ns h k = (h.0, facts_append s p ms ns h.1 k)
+
+-- each literal is of the sort, and over the first n variables
+abbrev Splittable : Sort → ℕ → List Lit → Type 0
+Splittable s n [] = ⊤
+Splittable s n (l ∷ ls) = (IsOf s l × BelowTerms n (form_of l).terms) × Splittable s n ls
+
+all_split : (s : Sort) (n : ℕ) (ls : List Lit) → list_all (is_split s n) ls ≡ true → Splittable s n ls
+all_split s n [] e = tt
+all_split s n (l ∷ ls) e =
+    let a = and_parts (is_split s n l) (list_all (is_split s n) ls) e in
+    (split_of_sort s n l a.0, all_split s n ls a.1)
+
+leaves_of_sort : (s : Sort) (n : ℕ) (ls : List Lit) → Splittable s n ls → EachOfSort (leaves ls) s
+leaves_of_sort s n [] h = tt
+leaves_of_sort s n (l ∷ ls) h = (h.0.0, leaves_of_sort s n ls h.1)
+
+-- where all literals fail, all their negations hold
+negations_hold : (s : Sort) (p : Point) (n : ℕ) (ls : List Lit) → IsPoint s p → Splittable s n ls → AllFail (leaves ls) p → Facts s p (map lit (map (neg s) ls))
+negations_hold s p n [] ip h f = tt
+negations_hold s p n (l ∷ ls) ip h f =
+    let no = neg_is_matrix (lit l) s n h.0 in
+    (record { of_sort = no.0; holds = neg_from s l p h.0.0 ip f.0 }, negations_hold s p n ls ip h.1 f.1)
+
+-- either the disjunction is true, or all fail
+either_or : (s : Sort) (p : Point) (n : ℕ) (ls : List Lit) → Splittable s n ls → (¬ Fact s p (either_of ls)) → (AllFail (leaves ls) p → ⊥) → ⊥
+either_or s p n [] h wrong k = k tt
+either_or s p n (l ∷ []) h wrong k = k ((λ t. wrong (record { of_sort = h.0.0; holds = t })), tt)
+either_or s p n (l ∷ m ∷ ls) h wrong k = wrong (record { of_sort = leaves_of_sort s n (l ∷ m ∷ ls) h; holds = k })
+
+learn_sound : (s : Sort) (p : Point) (n : ℕ) (c : Context) (ls : List Lit) (ks : List Context) → IsPoint s p → Facts s p c.facts → learn_line s n c ls ≡ Some ks → NoneHolds s p ks → ⊥
+learn_sound s p n c ls ks ip f e x =
+    let first : Context = record c { facts = c.facts ++ map lit (map (neg s) ls) } in
+    let both : List Context = first ∷ with_fact c (either_of ls) ∷ [] in
+    let g = guard_some (not c.bare && is_learn s n ls) (Some both) ks e in
+    let r1 = and_parts (not c.bare) (is_learn s n ls) g.0 in
+    let r2 = and_parts (nat_le 1 (length ls)) (list_all (is_split s n) ls) r1.1 in
+    let h = all_split s n ls r2.1 in
+    let x' : NoneHolds s p both = subst (λ (y : List Context). NoneHolds s p y) (sym (some_same both ks g.1)) x in
+    either_or s p n ls h (λ k. x'.1.0 (facts_push s p c.facts (either_of ls) f k))
+    (λ k. x'.0 (facts_append s p c.facts (map lit (map (neg s) ls)) f (negations_hold s p n ls ip h k)))
 
 cube_sound : (s : Sort) (p : Point) (c : Context) (is : List ℕ) (ks : List Context) → Facts s p c.facts → cube_line c is ≡ Some ks → NoneHolds s p ks → ⊥
 cube_sound s p c [] ks f e n = absurd (cc)
@@ -267,11 +319,11 @@ cube_of_facts s p [] h = (tt, tt)
 cube_of_facts s p (l ∷ ls) h =
     let k = cube_of_facts s p ls h.1 in ((h.0.of_sort, k.0), (h.0.holds, k.1))
 
-facts_of_cube : (s : Sort) (p : Point) (c : List Lit) → IsCube s c → CubeHolds c p → Facts s p (map lit c)
+pub facts_of_cube : (s : Sort) (p : Point) (c : List Lit) → IsCube s c → CubeHolds c p → Facts s p (map lit c)
 facts_of_cube s p [] o h = tt
 facts_of_cube s p (l ∷ ls) o h = (record { of_sort = o.0; holds = h.0 }, facts_of_cube s p ls o.1 h.1)
 
-some_case : (p : Point) (cs : List (List Lit)) → EachCube cs → SomeHolds cs p → NoneHolds Int p (map cube_context cs) → ⊥
+some_case : (p : Point) (cs : List (List Lit)) → AllByRecursion (IsCube Int) cs → SomeHolds cs p → NoneHolds Int p (map cube_context cs) → ⊥
 some_case p [] o h n = h
 some_case p (c ∷ cs) o h n =
     elim h [ inl k ↦ n.0 (facts_of_cube Int p c o.0 k) | inr k ↦ some_case p cs o.1 k n.1 ]
@@ -356,6 +408,7 @@ cube_step_sound s n c (Sum y a z b g) ks p ip f e x =
 cube_step_sound s n c (Split l) ks p ip f e x = split_sound s p n c l ks ip f e x
 cube_step_sound s n c (Cube is) ks p ip f e x = cube_sound s p c is ks f e x
 cube_step_sound s n c (Least v k) ks p ip f e x = least_sound s p n c v k ks ip f e x
+cube_step_sound s n c (Learn ls) ks p ip f e x = learn_sound s p n c ls ks ip f e x
 cube_step_sound s n c (False a) ks p ip f e x =
     let t = then_some false_line (literal_at c a) ks e in
     let g = guard_some (is_false (truth_of t.0)) (Some []) ks t.2 in

@@ -33,3 +33,9 @@ abbrev mutual
   CloseAll no_proof rules (k ∷ ks) = ⊥
   CloseAll (proof t ts) rules [] = ⊥
   CloseAll (proof t ts) rules (k ∷ ks) = Closes t rules k × CloseAll ts rules ks
+
+-- the lines are the preorder of a tree that closes the context
+pub record ClosesBy (rules : Rules) (c : Context) (steps : List Step) : Type 0 where
+  pub tree : Proof
+  pub lines : preorder tree ≡ steps
+  pub closes : Closes tree rules c

@@ -1,12 +1,11 @@
 -- Facts read as literals and by their parts, and the tests of literals.
-use Rattle.std.specs.Prelude.{ℕ, zero, suc, ◌<◌, ◌≤◌, ℤ, pos, Bool, true, false, ◌&&◌, nat_lt, nat_le, nat_eq, not, Option, Some, None, option_and_then, option_map, slice_get, List, [], ◌∷◌, ◌++◌, map}
-use Rattle.std.specs.Ordering.{int_eq}
+use Rattle.std.specs.Prelude.{ℕ, zero, suc, ℤ, Bool, true, false, ◌&&◌, nat_lt, nat_le, Option, Some, None, option_and_then, option_map, slice_get, List, [], ◌∷◌}
 use Rattle.lin_term.specs.declared.Sort.{Sort}
 use Rattle.lin_term.specs.declared.Sort.TheVariants.{Rat, Int}
 use Rattle.lin_term.specs.declared.Lit.{Lit}
 use Rattle.lin_term.specs.declared.Lit.TheVariants.{AtLeast, Above, Divides, NotDivides}
-use Rattle.lin_term.specs.Form.{Form}
 use Rattle.lin_term.specs.Literal.{prim}
+use Rattle.lin_term.specs.Same.{same_literal}
 use Rattle.dom_core.specs.Game.{Matrix, lit, all, some, Matrices, none, more}
 use Rattle.cube_rules.specs.Context.{Context}
 
@@ -73,33 +72,6 @@ is_of Int (AtLeast f) = true
 is_of Int (Above f) = false
 is_of Int (Divides d f) = nat_le 1 d
 is_of Int (NotDivides d f) = nat_le 1 d
-
-abbrev pub same_terms : List (ℕ × ℤ) → List (ℕ × ℤ) → Bool
-same_terms [] [] = true
-same_terms [] (u ∷ us) = false
-same_terms (t ∷ ts) [] = false
-same_terms (t ∷ ts) (u ∷ us) = nat_eq t.0 u.0 && int_eq t.1 u.1 && same_terms ts us
-
-abbrev pub same_form : Form → Form → Bool
-same_form f g = same_terms f.terms g.terms && int_eq f.constant g.constant
-
-abbrev pub same_literal : Lit → Lit → Bool
-same_literal (AtLeast f) (AtLeast g) = same_form f g
-same_literal (AtLeast f) (Above g) = false
-same_literal (AtLeast f) (Divides e g) = false
-same_literal (AtLeast f) (NotDivides e g) = false
-same_literal (Above f) (AtLeast g) = false
-same_literal (Above f) (Above g) = same_form f g
-same_literal (Above f) (Divides e g) = false
-same_literal (Above f) (NotDivides e g) = false
-same_literal (Divides d f) (AtLeast g) = false
-same_literal (Divides d f) (Above g) = false
-same_literal (Divides d f) (Divides e g) = nat_eq d e && same_form f g
-same_literal (Divides d f) (NotDivides e g) = false
-same_literal (NotDivides d f) (AtLeast g) = false
-same_literal (NotDivides d f) (Above g) = false
-same_literal (NotDivides d f) (Divides e g) = false
-same_literal (NotDivides d f) (NotDivides e g) = nat_eq d e && same_form f g
 
 -- of its sort, and its own primitive form
 abbrev pub is_primitive : Sort → Lit → Bool

@@ -1,45 +1,53 @@
 -- The lines of a proof that need nothing but the facts: what each needs, and what is left to close after it.
-use Rattle.std.specs.Prelude.{ℕ, ◌^◌, ℤ, pos, nat_abs, Bool, true, false, ◌&&◌, not, nat_lt, nat_le, nat_eq, int_le, is_none, Option, Some, None, option_and_then, option_map, slice_get, List, [], ◌∷◌, map, length}
+use Rattle.std.specs.Prelude.{ℕ, ℤ, pos, nat_abs, Bool, true, false, ◌&&◌, not, nat_lt, nat_le, nat_eq, int_le, is_none, Option, Some, None, option_and_then, option_map, slice_get, List, [], ◌∷◌, ◌++◌, map, length}
+use Rattle.std.specs.List.{list_all}
 use Rattle.lin_term.specs.declared.Sort.{Sort}
 use Rattle.lin_term.specs.declared.Sort.TheVariants.{Rat, Int}
 use Rattle.lin_term.specs.declared.Lit.{Lit}
-use Rattle.lin_term.specs.Form.{cap}
 use Rattle.lin_term.specs.Literal.{prim, neg, divisor, form_of}
 use Rattle.lin_term.specs.Sum.{sum_of}
 use Rattle.lin_term.specs.Truth.{truth_of}
-use Rattle.lin_term.specs.Wide.{fits, first_past, lit_numbers}
-use Rattle.dom_core.specs.Game.{Matrix, lit, Matrices, none, more}
+use Rattle.lin_term.specs.Wide.{first_past, lit_numbers}
+use Rattle.dom_core.specs.Game.{Matrix, lit, some, Matrices, none, more}
 use Rattle.dom_core.specs.Elimination.{eliminated, elimination_numbers}
 use Rattle.cube_rules.specs.declared.step.Step.{Step}
-use Rattle.cube_rules.specs.declared.step.Step.TheVariants.{Path, Def, Part, Cases, Sum, Split, Cube, Least, False}
+use Rattle.cube_rules.specs.declared.step.Step.TheVariants.{Path, Def, Part, Cases, Sum, Split, Cube, Least, Learn, False}
+use Rattle.cube_rules.specs.declared.kind.Kind.{Kind}
+use Rattle.cube_rules.specs.declared.kind.Kind.TheVariants as kind
 use Rattle.cube_rules.specs.declared.rule.Rule.{Rule}
-use Rattle.cube_rules.specs.declared.rule.Rule.TheVariants as rule
+use Rattle.cube_rules.specs.declared.rule.Rule.TheVariants.{Line}
 use Rattle.cube_rules.specs.Context.{Context, with_fact, cube_context}
 use Rattle.cube_rules.specs.Facts.{guard, count, and_child, or_children, literal_at, literals_at, all_literals, is_inequality, is_primitive, all_below}
 
+-- the kind of a line
+abbrev pub kind_of : Step → Kind
+kind_of (Path k) = kind.Path
+kind_of (Def v i) = kind.Def
+kind_of (Part f i) = kind.Part
+kind_of (Cases f n) = kind.Cases
+kind_of (Sum p f q h g) = kind.Sum
+kind_of (Split l) = kind.Split
+kind_of (Cube fs) = kind.Cube
+kind_of (Least v n) = kind.Least
+kind_of (Learn ls) = kind.Learn
+kind_of (False f) = kind.False
+
 -- the rule of a line
 abbrev pub rule_of : Step → Rule
-rule_of (Path k) = rule.Path
-rule_of (Def v i) = rule.Def
-rule_of (Part f i) = rule.Part
-rule_of (Cases f n) = rule.Cases
-rule_of (Sum p f q h g) = rule.Sum
-rule_of (Split l) = rule.Split
-rule_of (Cube fs) = rule.Cube
-rule_of (Least v n) = rule.Least
-rule_of (False f) = rule.False
+rule_of l = Line (kind_of l)
 
--- each number of the line is within the cap, but for the divisor of a sum, which is at most 2^105
-abbrev pub is_within : Step → Bool
-is_within (Path k) = true
-is_within (Def v i) = true
-is_within (Part f i) = true
-is_within (Cases f n) = nat_le n cap
-is_within (Sum p f q h g) = fits p && fits q && nat_le (nat_abs g) (2 ^ 105)
-is_within (Split l) = is_none (first_past (lit_numbers l))
-is_within (Cube fs) = true
-is_within (Least v n) = nat_le n cap
-is_within (False f) = true
+-- how many subproofs stand open in place of the line's own: after most lines it goes on
+abbrev pub parts : Step → ℕ
+parts (Path k) = 1
+parts (Def v i) = 1
+parts (Part f i) = 1
+parts (Cases f n) = n
+parts (Sum p f q h g) = 1
+parts (Split l) = 2
+parts (Cube fs) = 1
+parts (Least v n) = n
+parts (Learn ls) = 2
+parts (False f) = 0
 
 -- one more fact, and the same subproof goes on
 abbrev pub goes_on : Context → Matrix → List Context
@@ -69,6 +77,25 @@ is_split s n l =
 abbrev pub split_line : Sort → ℕ → Context → Lit → Option (List Context)
 split_line s n c l =
     guard (is_split s n l) (Some (with_fact c (lit l) ∷ with_fact c (lit (neg s l)) ∷ []))
+
+-- at least one literal, and each may be split upon
+abbrev pub is_learn : Sort → ℕ → List Lit → Bool
+is_learn s n ls = nat_le 1 (length ls) && list_all (is_split s n) ls
+
+abbrev pub leaves : List Lit → Matrices
+leaves [] = none
+leaves (l ∷ ls) = more (lit l) (leaves ls)
+
+-- the disjunction of the literals, or the literal where there is one
+abbrev pub either_of : List Lit → Matrix
+either_of [] = some none
+either_of (l ∷ []) = lit l
+either_of (l ∷ k ∷ ls) = some (leaves (l ∷ k ∷ ls))
+
+-- open: either all their negations hold, or one of the literals does
+abbrev pub learn_line : Sort → ℕ → Context → List Lit → Option (List Context)
+learn_line s n c ls =
+    guard (not c.bare && is_learn s n ls) (Some (record c { facts = c.facts ++ map lit (map (neg s) ls) } ∷ with_fact c (either_of ls) ∷ []))
 
 -- at least one fact, and all are literals: they alone stay
 abbrev pub cube_line : Context → List ℕ → Option (List Context)
@@ -110,4 +137,5 @@ cube_step s n c (Sum p f q h g) =
 cube_step s n c (Split l) = split_line s n c l
 cube_step s n c (Cube fs) = cube_line c fs
 cube_step s n c (Least v k) = least_line s n c v k
+cube_step s n c (Learn ls) = learn_line s n c ls
 cube_step s n c (False f) = option_and_then false_line (literal_at c f)

@@ -2,12 +2,11 @@
 
 ghost use Rattle.std.specs.Prelude.{◌≡◌, None, true, is_none, nat_lt, IfOk};
 ghost use Rattle.std.specs.List.{list_all};
-ghost use Rattle.std.specs.Ordering.{int_eq};
 ghost use Rattle.lin_term.specs.Literal.{form_of, prim};
 ghost use Rattle.lin_term.specs.Primable.{IsPrimable};
 ghost use Rattle.lin_term.specs.Truth.{truth_of};
 ghost use Rattle.lin_term.specs.Wide.{first_past, lit_numbers, form_numbers};
-ghost use Rattle.cube_rules.specs.Facts.{is_inequality, is_of, is_primitive, same_terms, same_form, same_literal, all_below};
+ghost use Rattle.cube_rules.specs.Facts.{is_inequality, is_of, is_primitive, all_below};
 ghost use Rattle.cube_rules.specs.Lines.{is_false};
 
 use lin_term::{CAP, Lit, Memory, Row, Short, Sort, closed_truth, primitive};
@@ -85,51 +84,6 @@ fn is_of_sort(sort: Sort, lit: &Lit) -> bool
     }
 }
 
-/// Whether the terms are the same, one by one.
-fn are_same_terms(a: &[(u32, i64)], b: &[(u32, i64)]) -> bool
-    ensures { result ≡ same_terms a.now b.now }
-{
-    a == b
-}
-
-/// Whether the constants are the same.
-fn is_same_constant(a: i64, b: i64) -> bool
-    ensures { result ≡ int_eq a b }
-{
-    a == b
-}
-
-/// Whether the rows have the same coefficients and constant.
-fn is_same_row(a: &Row, b: &Row) -> bool
-    ensures { result ≡ same_form a.now b.now }
-{
-    are_same_terms(a.coefs(), b.coefs()) && is_same_constant(a.constant_part(), b.constant_part())
-}
-
-/// Whether the literals are of the same kind, modulus and row.
-fn is_same_literal(a: &Lit, b: &Lit) -> bool
-    ensures { result ≡ same_literal a.now b.now }
-{
-    match a {
-        Lit::AtLeast(row) => match b {
-            Lit::AtLeast(other) => is_same_row(row, other),
-            _ => false,
-        },
-        Lit::Above(row) => match b {
-            Lit::Above(other) => is_same_row(row, other),
-            _ => false,
-        },
-        Lit::Divides(d, row) => match b {
-            Lit::Divides(e, other) => *d == *e && is_same_row(row, other),
-            _ => false,
-        },
-        Lit::NotDivides(d, row) => match b {
-            Lit::NotDivides(e, other) => *d == *e && is_same_row(row, other),
-            _ => false,
-        },
-    }
-}
-
 /// Whether the literal is of the sort and its own primitive form; its numbers are within the cap. It refuses only for
 /// memory.
 pub fn is_primitive_literal(alloc: Global, sort: Sort, lit: &Lit) -> Result<bool, Memory>
@@ -140,7 +94,7 @@ pub fn is_primitive_literal(alloc: Global, sort: Sort, lit: &Lit) -> Result<bool
         return Ok(false);
     }
     match primitive(alloc, sort, lit.copy(alloc)?) {
-        Ok(form) => Ok(is_same_literal(&form, lit)),
+        Ok(form) => Ok(form.is_same(lit)),
         Err(Short::Fault(_)) => Ok(false),
         Err(Short::Memory) => Err(Memory),
     }

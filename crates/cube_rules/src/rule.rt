@@ -3,6 +3,8 @@
 ghost use Rattle.std.specs.Prelude.{◌≡◌};
 ghost use Rattle.cube_rules.specs.Name.{printed};
 
+use crate::kind::Kind;
+
 /// The rule that a line of a strategy file breaks.
 #[derive(Clone, Copy, Debug, PartialEq, Eq)]
 pub enum Rule {
@@ -14,15 +16,8 @@ pub enum Rule {
     Turns,
     /// A move of the tree is in lowest form, and its numbers are within the cap.
     Move,
-    Path,
-    Def,
-    Part,
-    Cases,
-    Sum,
-    Split,
-    Cube,
-    Least,
-    False,
+    /// The rule of a line of a proof.
+    Line(Kind),
 }
 
 impl Rule {
@@ -35,15 +30,7 @@ impl Rule {
             Rule::Goals => "goals",
             Rule::Turns => "turns",
             Rule::Move => "move",
-            Rule::Path => "path",
-            Rule::Def => "def",
-            Rule::Part => "part",
-            Rule::Cases => "cases",
-            Rule::Sum => "sum",
-            Rule::Split => "split",
-            Rule::Cube => "cube",
-            Rule::Least => "least",
-            Rule::False => "false",
+            Rule::Line(kind) => kind.name(),
         }
     }
 }

@@ -1,14 +1,14 @@
 -- The value of a form at a point with another value for one variable.
-use Rattle.std.specs.Prelude.{ℕ, zero, suc, ◌+◌, ◌*◌, ◌≤◌, ◌≡◌, ◌≢◌, ℤ, pos, negsuc, ◌+ℤ◌, ◌*ℤ◌, nat_abs, Bool, true, false, cond, nat_eq, eqb, ltb, List, [], ◌∷◌}
-use Rattle.std.proofs.Common.{arith, ap, ◌∙◌, sym, subst, refl, eqb-true, ltb-false}
+use Rattle.std.specs.Prelude.{ℕ, zero, suc, ◌*◌, ◌≡◌, ◌≢◌, ℤ, pos, negsuc, ◌+ℤ◌, ◌*ℤ◌, Bool, true, false, cond, nat_eq, eqb, ltb, List, [], ◌∷◌, ◌++◌, length}
+use Rattle.std.proofs.Common.{arith, ap, ◌∙◌, sym, refl, eqb-true, ltb-false}
 use Rattle.std.proofs.lemmas.Int.{ints}
 use Rattle.std.proofs.lemmas.Bool.{cond_both, eqb-false}
 use Rattle.lin_term.specs.Form.{Form}
-use Rattle.lin_term.specs.declared.Sort.TheVariants.{Rat, Int}
-use Rattle.lin_term.specs.Linear.{Point, Value, IsPoint, at, dot_terms, dot, put_front, put, plus_terms, plus, times_terms, times, constant_form, scale_all}
+use Rattle.lin_term.specs.declared.Sort.TheVariants.{Int}
+use Rattle.lin_term.specs.Linear.{Point, Value, IsPoint, at, dot_terms, dot, put_front, put, plus_terms, plus, times_terms, times, scale_all, extend}
 use Rattle.lin_term.specs.PutIn.{coef, without, rest_of, occurs}
 use Rattle.lin_term.proofs.Ring.{distrib_ℤ, distrib_right_ℤ, mul_assoc_ℤ}
-use Rattle.lin_term.proofs.Dots.{at-scale_all}
+use Rattle.lin_term.proofs.Dots.{at-scale_all, length-scale_all}
 use Rattle.lin_term.proofs.PrimitiveLemmas.{one_times}
 use Rattle.dom_core.specs.Cube.{set_at, assign}
 
@@ -69,6 +69,15 @@ coef-times_terms k (t ∷ ts) x = coef-put_front t.0 (k *ℤ t.1) (times_terms k
 
 pub coef-times : (k : ℤ) (f : Form) (x : ℕ) → coef (times k f).terms x ≡ k *ℤ coef f.terms x
 coef-times k f x = coef-times_terms k f.terms x
+
+-- without x the coefficient of x is 0
+pub coef-without : (ts : List (ℕ × ℤ)) (x : ℕ) → coef (without ts x) x ≡ pos 0
+coef-without [] x = refl
+coef-without (t ∷ ts) x = by (nat_eq t.0 x) refl (coef-without ts x)
+  where
+    by : (b : Bool) → nat_eq t.0 x ≡ b → coef (without ts x) x ≡ pos 0 → coef (cond b (without ts x) (t ∷ without ts x)) x ≡ pos 0
+    by true e h = h
+    by false e h = ap (λ (b : Bool). cond b (t.1 +ℤ coef (without ts x) x) (coef (without ts x) x)) e ∙ h
 
 pub coef-absent : (ts : List (ℕ × ℤ)) (x : ℕ) → occurs ts x ≡ false → coef ts x ≡ pos 0
 coef-absent [] x e = refl
@@ -171,3 +180,17 @@ dot-own f e x i = dot-whole f e (at e.nums x) x i ∙ sym (split_dot f x e)
 
 pub whole_point : (e : Point) (y : ℤ) (x : ℕ) → IsPoint Int e → (assign e x (whole y)).den ≡ 1
 whole_point e y x i = omega arith
+
+-- ---- the next variable
+
+set_last : (xs : List ℤ) (x : ℕ) (z : ℤ) → length xs ≡ x → set_at xs x z ≡ xs ++ z ∷ []
+set_last [] zero z l = refl
+set_last [] (suc x) z l = absurd (omega arith)
+set_last (y ∷ ys) zero z l = absurd (omega arith)
+set_last (y ∷ ys) (suc x) z l = ap (λ (zs : List ℤ). y ∷ zs) (set_last ys x z (omega arith))
+
+-- a value at the end is a value at its place
+pub assign_last : (p : Point) (x : ℕ) (v : Value) → length p.nums ≡ x → assign p x v ≡ extend p v
+assign_last p x v l =
+    ap (λ (zs : List ℤ). let q : Point = record { den = p.den * v.den; nums = zs } in q)
+    (set_last (scale_all (pos v.den) p.nums) x (v.num *ℤ pos p.den) (length-scale_all (pos v.den) p.nums ∙ l))

@@ -1,83 +1,64 @@
 -- Lists of literals and lists of cubes, and which of them hold.
-use Rattle.std.specs.Prelude.{ℕ, zero, suc, ◌+◌, ◌<◌, ◌≤◌, ◌≡◌, ◌⊎◌, Bool, true, false, ◌||◌, cond, List, [], ◌∷◌, ◌++◌, map, filter, ⊤}
-use Rattle.std.specs.List.{list_any, range_with_len}
-use Rattle.std.proofs.Common.{arith, ap, ◌∙◌, sym, subst, refl, inl, inr}
+use Rattle.std.specs.Prelude.{ℕ, zero, suc, ◌+◌, ◌<◌, ◌≤◌, ◌≡◌, ◌⊎◌, Bool, true, false, ◌||◌, cond, List, [], ◌∷◌, ◌++◌, map, filter}
+use Rattle.std.specs.List.{list_any, range_with_len, AllByRecursion}
+use Rattle.std.proofs.Common.{arith, ◌∙◌, sym, subst, refl, inl, inr}
 use Rattle.std.proofs.lemmas.Bool.{cases_lt}
 use Rattle.lin_term.specs.declared.Lit.{Lit}
-use Rattle.lin_term.specs.declared.Sort.{Sort}
 use Rattle.lin_term.specs.Linear.{Point}
-use Rattle.lin_term.specs.Literal.{Holds, IsOf}
-use Rattle.dom_core.specs.Cube.{CubeHolds, SomeHolds, IsCube}
-
--- each literal of the cube has the property
-abbrev pub EachLit : (Lit → Type 0) → List Lit → Type 0
-EachLit F [] = ⊤
-EachLit F (l ∷ ls) = F l × EachLit F ls
+use Rattle.dom_core.specs.Cube.{CubeHolds, SomeHolds}
 
 -- some literal has it
 abbrev pub SomeLit : (Lit → Type 0) → List Lit → Type 0
 SomeLit F [] = ⊥
 SomeLit F (l ∷ ls) = F l ⊎ SomeLit F ls
 
-pub each_holds : (c : List Lit) (p : Point) → CubeHolds c p → EachLit (λ l. Holds l p) c
-each_holds [] p h = tt
-each_holds (l ∷ c) p h = (h.0, each_holds c p h.1)
-
-pub holds_each : (c : List Lit) (p : Point) → EachLit (λ l. Holds l p) c → CubeHolds c p
-holds_each [] p h = tt
-holds_each (l ∷ c) p h = (h.0, holds_each c p h.1)
-
-pub each_of : (s : Sort) (c : List Lit) → IsCube s c → EachLit (IsOf s) c
-each_of s [] h = tt
-each_of s (l ∷ c) h = (h.0, each_of s c h.1)
-
-pub each_map : (F G : Lit → Type 0) (c : List Lit) → ((l : Lit) → F l → G l) → EachLit F c → EachLit G c
+pub each_map : (F G : Lit → Type 0) (c : List Lit) → ((l : Lit) → F l → G l) → AllByRecursion F c → AllByRecursion G c
 each_map F G [] k h = tt
 each_map F G (l ∷ c) k h = (k l h.0, each_map F G c k h.1)
 
-pub each_two : (F G H : Lit → Type 0) (c : List Lit) → ((l : Lit) → F l → G l → H l) → EachLit F c → EachLit G c → EachLit H c
+pub each_two : (F G H : Lit → Type 0) (c : List Lit) → ((l : Lit) → F l → G l → H l) → AllByRecursion F c → AllByRecursion G c → AllByRecursion H c
 each_two F G H [] k h g = tt
 each_two F G H (l ∷ c) k h g = (k l h.0 g.0, each_two F G H c k h.1 g.1)
 
-pub each_four : (F G H J K : Lit → Type 0) (c : List Lit) → ((l : Lit) → F l → G l → H l → J l → K l) → EachLit F c → EachLit G c → EachLit H c → EachLit J c → EachLit K c
+pub each_four : (F G H J K : Lit → Type 0) (c : List Lit) → ((l : Lit) → F l → G l → H l → J l → K l) → AllByRecursion F c → AllByRecursion G c → AllByRecursion H c → AllByRecursion J c → AllByRecursion K c
 each_four F G H J K [] k f g h j = tt
 each_four F G H J K (l ∷ c) k f g h j = (k l f.0 g.0 h.0 j.0, each_four F G H J K c k f.1 g.1 h.1 j.1)
 
-pub some_two : (F G H : Lit → Type 0) (c : List Lit) → ((l : Lit) → F l → G l → H l) → EachLit F c → SomeLit G c → SomeLit H c
+pub some_two : (F G H : Lit → Type 0) (c : List Lit) → ((l : Lit) → F l → G l → H l) → AllByRecursion F c → SomeLit G c → SomeLit H c
 some_two F G H [] k h g = g
 some_two F G H (l ∷ c) k h (inl g) = inl (k l h.0 g)
 some_two F G H (l ∷ c) k h (inr g) = inr (some_two F G H c k h.1 g)
 
 -- ---- the literals that pass a test
 
-pub each_filter : (F G : Lit → Type 0) (p : Lit → Bool) (c : List Lit) → ((l : Lit) → p l ≡ true → F l → G l) → EachLit F c → EachLit G (filter p c)
+pub each_filter : (F G : Lit → Type 0) (p : Lit → Bool) (c : List Lit) → ((l : Lit) → p l ≡ true → F l → G l) → AllByRecursion F c → AllByRecursion G (filter p c)
 each_filter F G p [] k h = tt
 each_filter F G p (l ∷ c) k h = by (p l) refl (each_filter F G p c k h.1)
   where
-    by : (b : Bool) → p l ≡ b → EachLit G (filter p c) → EachLit G (cond b (l ∷ filter p c) (filter p c))
+    by : (b : Bool) → p l ≡ b → AllByRecursion G (filter p c) → AllByRecursion G (cond b (l ∷ filter p c) (filter p c))
     by true e r = (k l e h.0, r)
     by false e r = r
 
-pub of_filter : (F : Lit → Type 0) (p : Lit → Bool) (c : List Lit) → EachLit F (filter p c) → EachLit (λ l. p l ≡ true → F l) c
+pub of_filter : (F : Lit → Type 0) (p : Lit → Bool) (c : List Lit) → AllByRecursion F (filter p c) → AllByRecursion (λ l. p l ≡ true → F l) c
 of_filter F p [] h = tt
 of_filter F p (l ∷ c) h = by (p l) refl h (λ r. of_filter F p c r)
   where
-    by : (b : Bool) → p l ≡ b → EachLit F (cond b (l ∷ filter p c) (filter p c)) → (EachLit F (filter p c) → EachLit (λ m. p m ≡ true → F m) c) → (p l ≡ true → F l) × EachLit (λ m. p m ≡ true → F m) c
+    by : (b : Bool) → p l ≡ b → AllByRecursion F (cond b (l ∷ filter p c) (filter p c)) → (AllByRecursion F (filter p c) → AllByRecursion (λ m. p m ≡ true → F m) c) → (p l ≡ true → F l) × AllByRecursion (λ m. p m ≡ true → F m) c
     by true e r k = (λ q. r.0, k r.1)
     by false e r k = (λ q. absurd (let u : false ≡ true = sym e ∙ q in cc), k r)
 
-pub none_passes : (p : Lit → Bool) (c : List Lit) → list_any p c ≡ false → EachLit (λ l. p l ≡ false) c
+pub none_passes : (p : Lit → Bool) (c : List Lit) → list_any p c ≡ false → AllByRecursion (λ l. p l ≡ false) c
 none_passes p [] e = tt
 none_passes p (l ∷ c) e = by (p l) refl e (λ u. none_passes p c u)
   where
-    by : (b : Bool) → p l ≡ b → (b || list_any p c) ≡ false → (list_any p c ≡ false → EachLit (λ m. p m ≡ false) c) → (p l ≡ false) × EachLit (λ m. p m ≡ false) c
+    by : (b : Bool) → p l ≡ b → (b || list_any p c) ≡ false → (list_any p c ≡ false → AllByRecursion (λ m. p m ≡ false) c) → (p l ≡ false) × AllByRecursion (λ m. p m ≡ false) c
     by true q e k = absurd (cc)
     by false q e k = (q, k e)
 
 -- a literal that passes the test with the least measure
 pub record Fewest (p : Lit → Bool) (g : Lit → ℕ) (c : List Lit) : Type 0 where
   pub least : ℕ
-  pub each : EachLit (λ l. p l ≡ true → least ≤ g l) c
+  pub each : AllByRecursion (λ l. p l ≡ true → least ≤ g l) c
   pub some : SomeLit (λ l. (p l ≡ true) × (g l ≡ least)) c
 
 pub fewest : (p : Lit → Bool) (g : Lit → ℕ) (c : List Lit) → list_any p c ≡ true → Fewest p g c

@@ -1,16 +1,14 @@
 -- Over the integers a cube has a solution exactly where one of its cases has one.
-use Prim.Native.Nat.{◌∣◌}
-use Rattle.std.specs.Prelude.{ℕ, zero, suc, ◌+◌, ◌*◌, ◌/◌, ◌%◌, ◌<◌, ◌≤◌, ◌≡◌, ◌⊎◌, ℤ, pos, negsuc, ◌+ℤ◌, ◌-ℤ◌, ◌*ℤ◌, ◌≤ℤ◌, ◌<ℤ◌, neg_ℤ, nat_abs, Bool, true, false, not, cond, List, [], ◌∷◌, ◌++◌, map, filter, ⊤}
-use Rattle.std.specs.List.{list_any, range_with_len}
+use Rattle.std.specs.Prelude.{ℕ, zero, suc, ◌+◌, ◌*◌, ◌/◌, ◌%◌, ◌<◌, ◌≤◌, ◌≡◌, ℤ, pos, negsuc, ◌+ℤ◌, ◌-ℤ◌, ◌*ℤ◌, ◌≤ℤ◌, ◌<ℤ◌, neg_ℤ, nat_abs, Bool, true, false, not, cond, List, [], ◌∷◌, ◌++◌, map, filter}
+use Rattle.std.specs.List.{list_any, range_with_len, AllByRecursion}
 use Rattle.std.proofs.Common.{arith, ap, ◌∙◌, sym, subst, refl, inl, inr, mod-lt, mul-le-mul, mul-le-mul_left}
 use Rattle.std.proofs.lemmas.Int.{ints}
 use Rattle.std.proofs.Math.Nat.{dvd_of_mod-eq-zero}
 use Rattle.lin_term.specs.Form.{Form}
-use Rattle.lin_term.specs.declared.Sort.{Sort}
-use Rattle.lin_term.specs.declared.Sort.TheVariants.{Rat, Int}
+use Rattle.lin_term.specs.declared.Sort.TheVariants.{Int}
 use Rattle.lin_term.specs.declared.Lit.{Lit}
 use Rattle.lin_term.specs.declared.Lit.TheVariants.{AtLeast, Above, Divides, NotDivides}
-use Rattle.lin_term.specs.Linear.{Point, Value, IsValue, IsPoint, at, dot, plus, times, constant_form, floor_div}
+use Rattle.lin_term.specs.Linear.{Point, IsPoint, at, dot, times, constant_form, floor_div}
 use Rattle.lin_term.specs.Literal.{Holds, IsOf, form_of, prim, residue}
 use Rattle.lin_term.specs.PutIn.{coef, rest_of}
 use Rattle.lin_term.proofs.Ring.{distrib_ℤ, mul_neg_ℤ}
@@ -18,11 +16,11 @@ use Rattle.lin_term.proofs.Dots.{dot-plus, dot-times, dot-constant_form}
 use Rattle.lin_term.proofs.Dividing.{multiple, one_den_mod}
 use Rattle.lin_term.proofs.PrimitiveLemmas.{floor_exact, one_times, prim_to, prim_from, residue_split}
 use Rattle.lin_term.proofs.Lowest.{residue_less}
-use Rattle.dom_core.specs.Cube.{assign, CubeHolds, SomeHolds, IsCube, Solves}
+use Rattle.dom_core.specs.Cube.{assign, CubeHolds, SomeHolds, IsCube, HasSolution}
 use Rattle.dom_core.specs.Elimination.{coef_at, size_at, is_positive, is_negative, is_lower, is_upper, delta, put_all, above_bound, lower_case, lower_cases, free_case, cooper, eliminated}
-use Rattle.dom_core.proofs.Assigning.{whole, whole_point, dot-whole}
-use Rattle.dom_core.proofs.Cases.{EachLit, SomeLit, each_holds, holds_each, each_of, each_map, each_two, each_four, some_two, each_filter, of_filter, none_passes, Fewest, fewest, cube_join, cube_split, some_left, some_right, some_parts, some_at, some_of}
-use Rattle.dom_core.proofs.Putting.{own_cube, put_all_to, put_all_from}
+use Rattle.dom_core.proofs.Assigning.{whole, dot-whole}
+use Rattle.dom_core.proofs.Cases.{SomeLit, each_two, each_four, some_two, each_filter, of_filter, none_passes, fewest, cube_join, cube_split, some_left, some_right, some_parts, some_at, some_of}
+use Rattle.dom_core.proofs.Putting.{own_cube, put_whole_to, put_whole_from}
 use Rattle.dom_core.proofs.Periods.{Period, delta_period, Bounded, lit_moved}
 
 -- the literal's value with y for x
@@ -55,9 +53,9 @@ case_to x before f after k e y i p hb ha q =
     let d = dot-above_bound x (AtLeast f) k e i in
     let m = ap (λ (z : ℤ). z *ℤ y) s.0 in
     let u : dot t e ≡ pos a *ℤ y = omega (arith, ints) in
-    cube_join (put_all x a t before) (prim Int (Divides a t) ∷ put_all x a t after) e
-    (put_all_to before x a t e y i s.1 u hb)
-    (prim_to Int (Divides a t) e i (multiple a e.den y (dot t e) i u), put_all_to after x a t e y i s.1 u ha)
+    cube_join (put_all Int x a t before) (prim Int (Divides a t) ∷ put_all Int x a t after) e
+    (put_whole_to before x a t e y i s.1 u hb)
+    (prim_to Int (Divides a t) e i (multiple a e.den y (dot t e) i u), put_whole_to after x a t e y i s.1 u ha)
 
 -- the value of x that a case gives
 record Solved (x : ℕ) (before after : List Lit) (e : Point) : Type 0 where
@@ -70,7 +68,7 @@ case_from x before f after k e i p h =
     let s = size_is f x p in
     let a : ℕ = nat_abs (coef f.terms x) in
     let t : Form = above_bound x (AtLeast f) k in
-    let r = cube_split (put_all x a t before) (prim Int (Divides a t) ∷ put_all x a t after) e h in
+    let r = cube_split (put_all Int x a t before) (prim Int (Divides a t) ∷ put_all Int x a t after) e h in
     let v = prim_from Int (Divides a t) e i r.1.0 in
     let y : ℤ = floor_div (dot t e) a in
     let u : dot t e ≡ pos a *ℤ y = sym (floor_exact (dot t e) a s.1 (dvd_of_mod-eq-zero a (sym (one_den_mod (dot t e) a e.den i) ∙ v))) in
@@ -79,8 +77,8 @@ case_from x before f after k e i p h =
     let w = dot-whole f e y x i in
     record {
       y = y;
-      left = put_all_from before x a t e y i s.1 u r.0;
-      right = (omega (arith, ints), put_all_from after x a t e y i s.1 u r.1.1);
+      left = put_whole_from before x a t e y i s.1 u r.0;
+      right = (omega (arith, ints), put_whole_from after x a t e y i s.1 u r.1.1);
     }
 
 -- ---- some lower literal is less than a*n above its bound
@@ -198,12 +196,11 @@ low_to x c e y i o t h =
     let f = fewest (is_lower x) (steps_at x n y e) c t in
     let m : ℕ = f.least in
     let z : ℤ = y -ℤ pos (n * m) in
-    let each = each_holds c (assign e x (whole y)) h in
     let down = each_four (IsOf Int) (Period n x) (λ l. Holds l (assign e x (whole y))) (λ l. is_lower x l ≡ true → m ≤ steps_at x n y e l) (λ l. Holds l (assign e x (whole z))) c
-    (λ l a b g k. lit_moved x n y z (pos m) e l i (periods_back y n m) b g (bounded_down x n m y e l i a g k)) (each_of Int c o) d.1 each f.each in
+    (λ l a b g k. lit_moved x n y z (pos m) e l i (periods_back y n m) b g (bounded_down x n m y e l i a g k)) o d.1 h f.each in
     let near = some_two (λ l. IsOf Int l × Holds l (assign e x (whole y))) (λ l. (is_lower x l ≡ true) × (steps_at x n y e l ≡ m)) (Near x n z e) c
-    (λ l a k. near_down x n m y e l d.0 i a.0 a.1 k) (each_two (IsOf Int) (λ l. Holds l (assign e x (whole y))) (λ l. IsOf Int l × Holds l (assign e x (whole y))) c (λ l a b. (a, b)) (each_of Int c o) each) f.some in
-    near_to x n [] c e z i o tt (holds_each c (assign e x (whole z)) down) near
+    (λ l a k. near_down x n m y e l d.0 i a.0 a.1 k) (each_two (IsOf Int) (λ l. Holds l (assign e x (whole y))) (λ l. IsOf Int l × Holds l (assign e x (whole y))) c (λ l a b. (a, b)) o h) f.some in
+    near_to x n [] c e z i o tt down near
 
 -- ---- without lower literals
 
@@ -232,17 +229,17 @@ free_to x c e y i o t h =
     let n : ℕ = delta c x in
     let k : ℕ = residue y n in
     let held = each_four (IsOf Int) (Period n x) (λ l. Holds l (assign e x (whole y))) (λ l. is_lower x l ≡ false) (λ l. is_upper x l ≡ false → Holds l (assign e x (whole (pos k)))) c
-    (λ l a b g s u. lit_moved x n y (pos k) (floor_div y n) e l i (residue_split y n d.0) b g (plain_bounded x y (pos k) e l i a s u g)) (each_of Int c o) d.1 (each_holds c (assign e x (whole y)) h) (none_passes (is_lower x) c t) in
+    (λ l a b g s u. lit_moved x n y (pos k) (floor_div y n) e l i (residue_split y n d.0) b g (plain_bounded x y (pos k) e l i a s u g)) o d.1 h (none_passes (is_lower x) c t) in
     let kept = each_filter (λ l. is_upper x l ≡ false → Holds l (assign e x (whole (pos k)))) (λ l. Holds l (assign e x (whole (pos k)))) (λ l. not (is_upper x l)) c (λ l q g. g (not_true (is_upper x l) q)) held in
     some_at (free_case x c) 0 n k k e (residue_less y n d.0) (omega arith)
-    (put_all_to (filter (λ l. not (is_upper x l)) c) x 1 (constant_form (pos k)) e (pos k) i (omega arith) (free_fit k e i) (holds_each (filter (λ l. not (is_upper x l)) c) (assign e x (whole (pos k))) kept))
+    (put_whole_to (filter (λ l. not (is_upper x l)) c) x 1 (constant_form (pos k)) e (pos k) i (omega arith) (free_fit k e i) kept)
 
 -- so many periods below no upper literal is broken
 total_at : ℕ → ℤ → Point → List Lit → ℕ
 total_at x y e [] = 0
 total_at x y e (l ∷ c) = nat_abs (value_at x y e l) + total_at x y e c
 
-at_most_total : (x : ℕ) (y : ℤ) (e : Point) (c : List Lit) (k : ℕ) → total_at x y e c ≤ k → EachLit (λ l. nat_abs (value_at x y e l) ≤ k) c
+at_most_total : (x : ℕ) (y : ℤ) (e : Point) (c : List Lit) (k : ℕ) → total_at x y e c ≤ k → AllByRecursion (λ l. nat_abs (value_at x y e l) ≤ k) c
 unfolding total_at
 at_most_total x y e [] k h = tt
 at_most_total x y e (l ∷ c) k h = (omega arith, at_most_total x y e c k (omega arith))
@@ -276,7 +273,7 @@ free_moved x n m y e (Divides d f) on i o p lo h k =
 free_moved x n m y e (NotDivides d f) on i o p lo h k =
     lit_moved x n y (y -ℤ pos (n * m)) (pos m) e (NotDivides d f) i (periods_back y n m) p (h refl) tt
 
-free_back : (x : ℕ) (c : List Lit) (e : Point) → IsPoint Int e → IsCube Int c → list_any (is_lower x) c ≡ false → SomeHolds (map (free_case x c) (range_with_len 0 (delta c x))) e → Solves Int c x e
+free_back : (x : ℕ) (c : List Lit) (e : Point) → IsPoint Int e → IsCube Int c → list_any (is_lower x) c ≡ false → SomeHolds (map (free_case x c) (range_with_len 0 (delta c x))) e → HasSolution Int c x e
 free_back x c e i o t h =
     let d = delta_period c x o in
     let n : ℕ = delta c x in
@@ -284,14 +281,14 @@ free_back x c e i o t h =
     let k : ℤ = pos r.0 in
     let m : ℕ = total_at x k e c in
     let z : ℤ = k -ℤ pos (n * m) in
-    let put = put_all_from (filter (λ l. not (is_upper x l)) c) x 1 (constant_form k) e k i (omega arith) (free_fit r.0 e i) r.1 in
-    let held = of_filter (λ l. Holds l (assign e x (whole k))) (λ l. not (is_upper x l)) c (each_holds (filter (λ l. not (is_upper x l)) c) (assign e x (whole k)) put) in
+    let put = put_whole_from (filter (λ l. not (is_upper x l)) c) x 1 (constant_form k) e k i (omega arith) (free_fit r.0 e i) r.1 in
+    let held = of_filter (λ l. Holds l (assign e x (whole k))) (λ l. not (is_upper x l)) c put in
     let pairs = each_two (Period n x) (λ l. is_lower x l ≡ false) (λ l. Period n x l × (is_lower x l ≡ false)) c (λ l a b. (a, b)) d.1 (none_passes (is_lower x) c t) in
     record {
       value = whole z;
       is_value = refl;
-      holds = holds_each c (assign e x (whole z)) (each_four (IsOf Int) (λ l. Period n x l × (is_lower x l ≡ false)) (λ l. not (is_upper x l) ≡ true → Holds l (assign e x (whole k))) (λ l. nat_abs (value_at x k e l) ≤ m) (λ l. Holds l (assign e x (whole z))) c
-          (λ l a b g s. free_moved x n m k e l d.0 i a b.0 b.1 g s) (each_of Int c o) pairs held (at_most_total x k e c m (omega arith)));
+      holds = (each_four (IsOf Int) (λ l. Period n x l × (is_lower x l ≡ false)) (λ l. not (is_upper x l) ≡ true → Holds l (assign e x (whole k))) (λ l. nat_abs (value_at x k e l) ≤ m) (λ l. Holds l (assign e x (whole z))) c
+          (λ l a b g s. free_moved x n m k e l d.0 i a b.0 b.1 g s) o pairs held (at_most_total x k e c m (omega arith)));
     }
 
 -- ---- both directions
@@ -303,10 +300,10 @@ cooper_to c x e y i o h = by (list_any (is_lower x) c) refl
     by true q = low_to x c e y i o q h
     by false q = free_to x c e y i o q h
 
-pub cooper_from : (c : List Lit) (x : ℕ) (e : Point) → IsPoint Int e → IsCube Int c → SomeHolds (cooper c x) e → Solves Int c x e
+pub cooper_from : (c : List Lit) (x : ℕ) (e : Point) → IsPoint Int e → IsCube Int c → SomeHolds (cooper c x) e → HasSolution Int c x e
 cooper_from c x e i o h = by (list_any (is_lower x) c) refl h
   where
-    by : (b : Bool) → list_any (is_lower x) c ≡ b → SomeHolds (cond b (lower_cases x (delta c x) [] c) (map (free_case x c) (range_with_len 0 (delta c x)))) e → Solves Int c x e
+    by : (b : Bool) → list_any (is_lower x) c ≡ b → SomeHolds (cond b (lower_cases x (delta c x) [] c) (map (free_case x c) (range_with_len 0 (delta c x)))) e → HasSolution Int c x e
     by true q h = let r = cases_from x (delta c x) [] c e i o h in record { value = whole r.y; is_value = refl; holds = r.right }
     by false q h = free_back x c e i o q h
 

@@ -10,7 +10,7 @@ use Rattle.dom_core.specs.declared.quant.Quant.TheVariants.{Exists, Forall}
 use Rattle.dom_core.specs.declared.matrix.Matrix.{Matrix as Written}
 use Rattle.dom_core.specs.Game.{Matrix, Problem, IsMatrix, TrueP, dual, flip, flip_all, neg_matrix}
 use Rattle.dom_core.specs.View.{matrix_of}
-use Rattle.dom_core.specs.Problem.{WrittenProblem, IsProblem, IsKept, problem_of}
+use Rattle.dom_core.specs.Problem.{WrittenProblem, IsProblem, HasNegations, problem_of}
 use Rattle.dom_core.specs.Negation.{HasRows}
 use Rattle.dom_core.proofs.Contrary.{dual_apart, dual_from}
 use Rattle.dom_core.proofs.Renaming.{neg_is_matrix}
@@ -50,7 +50,7 @@ written qs m = record { prefix = qs; matrix = m }
 
 -- what a problem keeps, in the definition's own terms
 abbrev IsOne : Sort → List Quant → Matrix → Type 0
-IsOne s qs m = (length qs ≤ 1024) × IsMatrix m s (length qs) × IsKept m s
+IsOne s qs m = (length qs ≤ 1024) × IsMatrix m s (length qs) × HasNegations m s
 
 pub dual_is_problem : (s : Sort) (P : WrittenProblem) (qs : List Quant) (m : Written) → IsProblem s P → HasRows (matrix_of P.matrix) → qs ≡ flip_all P.prefix → matrix_of m ≡ neg_matrix (matrix_of P.matrix) s → IsProblem s (written qs m)
 dual_is_problem s P qs m p r e f =

@@ -1,26 +1,26 @@
 -- Over the rationals a cube has a solution exactly where its eliminated cube has one.
 use Prim.Native.Nat.{◌∣◌}
-use Rattle.std.specs.Prelude.{ℕ, zero, suc, ◌+◌, ◌*◌, ◌/◌, ◌<◌, ◌≤◌, ◌≡◌, ◌⊎◌, ℤ, pos, negsuc, ◌+ℤ◌, ◌-ℤ◌, ◌*ℤ◌, ◌≤ℤ◌, ◌<ℤ◌, neg_ℤ, nat_abs, Bool, true, false, ◌||◌, cond, List, [], ◌∷◌, ◌++◌, map, filter, ⊤}
-use Rattle.std.specs.List.{flat_map, list_any}
+use Rattle.std.specs.Prelude.{ℕ, zero, suc, ◌*◌, ◌/◌, ◌≤◌, ◌≡◌, ◌⊎◌, ℤ, pos, negsuc, ◌+ℤ◌, ◌-ℤ◌, ◌*ℤ◌, ◌≤ℤ◌, ◌<ℤ◌, neg_ℤ, nat_abs, Bool, true, false, ◌||◌, cond, List, [], ◌∷◌, map, filter}
+use Rattle.std.specs.List.{flat_map, list_any, AllByRecursion}
 use Rattle.std.proofs.Common.{arith, ap, ap₂, ◌∙◌, sym, subst, refl, inl, inr, mul-le-mul}
 use Rattle.std.proofs.lemmas.Int.{ints, by_lt_z}
 use Rattle.std.proofs.Math.Nat.{eq-zero_of_zero-dvd}
 use lib.IntN.{*ℤ_comm}
 use Rattle.lin_term.specs.Form.{Form}
-use Rattle.lin_term.specs.declared.Sort.TheVariants.{Rat, Int}
+use Rattle.lin_term.specs.declared.Sort.TheVariants.{Rat}
 use Rattle.lin_term.specs.declared.Lit.{Lit}
 use Rattle.lin_term.specs.declared.Lit.TheVariants.{AtLeast, Above, Divides, NotDivides}
-use Rattle.lin_term.specs.Linear.{Point, Value, IsValue, IsPoint, at, dot, plus, times}
-use Rattle.lin_term.specs.Literal.{Holds, IsOf, form_of, gcd, prim}
+use Rattle.lin_term.specs.Linear.{Point, Value, IsPoint, at, dot, plus, times}
+use Rattle.lin_term.specs.Literal.{Holds, IsOf, form_of, gcd}
 use Rattle.lin_term.specs.PutIn.{coef, rest_of}
 use Rattle.lin_term.specs.Sum.{is_strict, inequality_with, sum_of}
 use Rattle.lin_term.proofs.Ring.{ring, nonneg_mul, pos_mul, nonneg_from_mul, pos_from_mul}
 use Rattle.lin_term.proofs.Dots.{dot-plus, dot-times}
 use Rattle.lin_term.proofs.PrimitiveLemmas.{gcd_is, whole_div, prim_to, prim_from}
-use Rattle.dom_core.specs.Cube.{assign, CubeHolds, SomeHolds, IsCube, Solves}
+use Rattle.dom_core.specs.Cube.{assign, CubeHolds, IsCube, HasSolution}
 use Rattle.dom_core.specs.Elimination.{coef_at, size_at, is_positive, is_negative, is_zero, is_lower, is_upper, is_free, resolvent, fourier_motzkin}
 use Rattle.dom_core.proofs.Assigning.{split_dot, dot-assign, dot-assign_free}
-use Rattle.dom_core.proofs.Cases.{EachLit, each_holds, holds_each, each_of, each_map, each_two, each_four, each_filter, of_filter, none_passes, cube_join, cube_split}
+use Rattle.dom_core.proofs.Cases.{each_map, each_two, each_four, each_filter, of_filter, none_passes, cube_join, cube_split}
 
 -- ---- bounds: a*w + r*d is at least 0, or above 0
 
@@ -93,18 +93,18 @@ negative_is : (z : ℤ) → is_negative z ≡ true → (z ≡ neg_ℤ (pos (nat_
 negative_is (pos k) e = absurd (cc)
 negative_is (negsuc k) e = (refl, omega arith)
 
-zero_is : (z : ℤ) → is_zero z ≡ true → z ≡ pos 0
+pub zero_is : (z : ℤ) → is_zero z ≡ true → z ≡ pos 0
 zero_is (pos zero) e = refl
 zero_is (pos (suc k)) e = absurd (cc)
 zero_is (negsuc k) e = absurd (cc)
 
-lower_is : (x : ℕ) (l : Lit) → is_lower x l ≡ true → (coef_at x l ≡ pos (size_at x l)) × (1 ≤ size_at x l)
+pub lower_is : (x : ℕ) (l : Lit) → is_lower x l ≡ true → (coef_at x l ≡ pos (size_at x l)) × (1 ≤ size_at x l)
 lower_is x (AtLeast f) e = positive_is (coef f.terms x) e
 lower_is x (Above f) e = positive_is (coef f.terms x) e
 lower_is x (Divides d f) e = absurd (cc)
 lower_is x (NotDivides d f) e = absurd (cc)
 
-upper_is : (x : ℕ) (l : Lit) → is_upper x l ≡ true → (coef_at x l ≡ neg_ℤ (pos (size_at x l))) × (1 ≤ size_at x l)
+pub upper_is : (x : ℕ) (l : Lit) → is_upper x l ≡ true → (coef_at x l ≡ neg_ℤ (pos (size_at x l))) × (1 ≤ size_at x l)
 upper_is x (AtLeast f) e = negative_is (coef f.terms x) e
 upper_is x (Above f) e = negative_is (coef f.terms x) e
 upper_is x (Divides d f) e = absurd (cc)
@@ -190,8 +190,8 @@ free_from x (NotDivides d f) e v od o t h = absurd o
 record Strongest (p : Lit → Bool) (x : ℕ) (e : Point) (c : List Lit) : Type 1 where
   lit : Lit
   passes : p lit ≡ true
-  among : (F : Lit → Type 0) → EachLit F c → F lit
-  implies : (w d : ℤ) → pos 0 <ℤ d → LitMeets x e w d lit → EachLit (λ m. p m ≡ true → LitMeets x e w d m) c
+  among : (F : Lit → Type 0) → AllByRecursion F c → F lit
+  implies : (w d : ℤ) → pos 0 <ℤ d → LitMeets x e w d lit → AllByRecursion (λ m. p m ≡ true → LitMeets x e w d m) c
 
 strongest : (p : Lit → Bool) (x : ℕ) (e : Point) (c : List Lit) → ((l : Lit) → p l ≡ true → 1 ≤ size_at x l) → list_any p c ≡ true → Strongest p x e c
 strongest p x e [] z t = absurd (cc)
@@ -336,21 +336,21 @@ resolvent_from x e l u i ol ou tl tu h =
 
 -- ---- the sums of all pairs
 
-pairs_to : (g : Lit → Lit → Lit) (ls us : List Lit) (e : Point) → EachLit (λ l. EachLit (λ u. Holds (g l u) e) us) ls → CubeHolds (flat_map (λ l. map (λ u. g l u) us) ls) e
+pairs_to : (g : Lit → Lit → Lit) (ls us : List Lit) (e : Point) → AllByRecursion (λ l. AllByRecursion (λ u. Holds (g l u) e) us) ls → CubeHolds (flat_map (λ l. map (λ u. g l u) us) ls) e
 pairs_to g [] us e h = tt
 pairs_to g (l ∷ ls) us e h = cube_join (map (λ u. g l u) us) (flat_map (λ l. map (λ u. g l u) us) ls) e (row us h.0) (pairs_to g ls us e h.1)
   where
-    row : (us : List Lit) → EachLit (λ u. Holds (g l u) e) us → CubeHolds (map (λ u. g l u) us) e
+    row : (us : List Lit) → AllByRecursion (λ u. Holds (g l u) e) us → CubeHolds (map (λ u. g l u) us) e
     row [] k = tt
     row (u ∷ us) k = (k.0, row us k.1)
 
-pairs_from : (g : Lit → Lit → Lit) (ls us : List Lit) (e : Point) → CubeHolds (flat_map (λ l. map (λ u. g l u) us) ls) e → EachLit (λ l. EachLit (λ u. Holds (g l u) e) us) ls
+pairs_from : (g : Lit → Lit → Lit) (ls us : List Lit) (e : Point) → CubeHolds (flat_map (λ l. map (λ u. g l u) us) ls) e → AllByRecursion (λ l. AllByRecursion (λ u. Holds (g l u) e) us) ls
 pairs_from g [] us e h = tt
 pairs_from g (l ∷ ls) us e h =
     let k = cube_split (map (λ u. g l u) us) (flat_map (λ l. map (λ u. g l u) us) ls) e h in
     (row us k.0, pairs_from g ls us e k.1)
   where
-    row : (us : List Lit) → CubeHolds (map (λ u. g l u) us) e → EachLit (λ u. Holds (g l u) e) us
+    row : (us : List Lit) → CubeHolds (map (λ u. g l u) us) e → AllByRecursion (λ u. Holds (g l u) e) us
     row [] k = tt
     row (u ∷ us) k = (k.0, row us k.1)
 
@@ -358,14 +358,14 @@ pairs_from g (l ∷ ls) us e h =
 
 pub fourier_motzkin_to : (c : List Lit) (x : ℕ) (e : Point) (v : Value) → IsPoint Rat e → IsCube Rat c → 1 ≤ v.den → CubeHolds c (assign e x v) → CubeHolds (fourier_motzkin c x) e
 fourier_motzkin_to c x e v i o ov h =
-    let k = each_two (IsOf Rat) (λ l. Holds l (assign e x v)) (λ l. IsOf Rat l × Holds l (assign e x v)) c (λ l a b. (a, b)) (each_of Rat c o) (each_holds c (assign e x v) h) in
+    let k = each_two (IsOf Rat) (λ l. Holds l (assign e x v)) (λ l. IsOf Rat l × Holds l (assign e x v)) c (λ l a b. (a, b)) o h in
     let w : ℤ = v.num *ℤ pos e.den in
     let lows = each_filter (λ l. IsOf Rat l × Holds l (assign e x v)) (λ l. (is_lower x l ≡ true) × IsOf Rat l × LitMeets x e w (pos v.den) l) (is_lower x) c (λ l t a. (t, a.0, lower_to x l e v a.0 t a.1)) k in
     let highs = each_filter (λ l. IsOf Rat l × Holds l (assign e x v)) (λ l. (is_upper x l ≡ true) × IsOf Rat l × LitMeets x e (neg_ℤ w) (pos v.den) l) (is_upper x) c (λ l t a. (t, a.0, upper_to x l e v a.0 t a.1)) k in
     cube_join (filter (is_free x) c) (flat_map (λ l. map (λ u. resolvent x l u) (filter (is_upper x) c)) (filter (is_lower x) c)) e
-    (holds_each (filter (is_free x) c) e (each_filter (λ l. IsOf Rat l × Holds l (assign e x v)) (λ l. Holds l e) (is_free x) c (λ l t a. free_to x l e v ov a.0 t a.1) k))
+    (each_filter (λ l. IsOf Rat l × Holds l (assign e x v)) (λ l. Holds l e) (is_free x) c (λ l t a. free_to x l e v ov a.0 t a.1) k)
     (pairs_to (resolvent x) (filter (is_lower x) c) (filter (is_upper x) c) e
-    (each_map (λ l. (is_lower x l ≡ true) × IsOf Rat l × LitMeets x e w (pos v.den) l) (λ l. EachLit (λ u. Holds (resolvent x l u) e) (filter (is_upper x) c)) (filter (is_lower x) c)
+    (each_map (λ l. (is_lower x l ≡ true) × IsOf Rat l × LitMeets x e w (pos v.den) l) (λ l. AllByRecursion (λ u. Holds (resolvent x l u) e) (filter (is_upper x) c)) (filter (is_lower x) c)
     (λ l a. each_map (λ u. (is_upper x u ≡ true) × IsOf Rat u × LitMeets x e (neg_ℤ w) (pos v.den) u) (λ u. Holds (resolvent x l u) e) (filter (is_upper x) c)
     (λ u b. resolvent_to x e l u w (pos v.den) i a.1 b.1 a.0 b.0 (above_zero v.den ov) a.2 b.2) highs) lows))
 
@@ -376,14 +376,14 @@ one_times_two a b n oa ob on = let p = mul-le-mul (mul-le-mul oa ob) on in omega
 
 -- each literal is met by the value
 abbrev Met : ℕ → Point → Value → List Lit → Type 0
-Met x e v c = EachLit (λ l. is_lower x l ≡ true → LitMeets x e (v.num *ℤ pos e.den) (pos v.den) l) c × EachLit (λ l. is_upper x l ≡ true → LitMeets x e (neg_ℤ (v.num *ℤ pos e.den)) (pos v.den) l) c
+Met x e v c = AllByRecursion (λ l. is_lower x l ≡ true → LitMeets x e (v.num *ℤ pos e.den) (pos v.den) l) c × AllByRecursion (λ l. is_upper x l ≡ true → LitMeets x e (neg_ℤ (v.num *ℤ pos e.den)) (pos v.den) l) c
 
 record Between (x : ℕ) (e : Point) (c : List Lit) : Type 0 where
   value : Value
   one : 1 ≤ value.den
   met : Met x e value c
 
-no_bound : (p : Lit → Bool) (F : Lit → Type 0) (c : List Lit) → list_any p c ≡ false → EachLit (λ l. p l ≡ true → F l) c
+no_bound : (p : Lit → Bool) (F : Lit → Type 0) (c : List Lit) → list_any p c ≡ false → AllByRecursion (λ l. p l ≡ true → F l) c
 no_bound p F c t = each_map (λ l. p l ≡ false) (λ l. p l ≡ true → F l) c (λ l j s. absurd (let y : false ≡ true = sym j ∙ s in cc)) (none_passes p c t)
 
 abbrev fraction : ℤ → ℕ → Value
@@ -472,7 +472,7 @@ below_high x e c i tl tu =
 
 -- what the sums say of each lower and each upper literal
 abbrev Crossing : ℕ → Point → List Lit → Type 0
-Crossing x e c = EachLit (λ l. IsOf Rat l × (is_lower x l ≡ true → EachLit (λ u. IsOf Rat u × (is_upper x u ≡ true → Holds (resolvent x l u) e)) c)) c
+Crossing x e c = AllByRecursion (λ l. IsOf Rat l × (is_lower x l ≡ true → AllByRecursion (λ u. IsOf Rat u × (is_upper x u ≡ true → Holds (resolvent x l u) e)) c)) c
 
 in_middle : (x : ℕ) (e : Point) (c : List Lit) → IsPoint Rat e → Crossing x e c → list_any (is_lower x) c ≡ true → list_any (is_upper x) c ≡ true → Between x e c
 in_middle x e c i k tl tu =
@@ -484,7 +484,7 @@ in_middle x e c i k tl tu =
     let ob = (upper_is x u.lit u.passes).1 in
     let r : ℤ = rest_at x e l.lit in
     let s : ℤ = rest_at x e u.lit in
-    let h = l.among (λ l. IsOf Rat l × (is_lower x l ≡ true → EachLit (λ u. IsOf Rat u × (is_upper x u ≡ true → Holds (resolvent x l u) e)) c)) k in
+    let h = l.among (λ l. IsOf Rat l × (is_lower x l ≡ true → AllByRecursion (λ u. IsOf Rat u × (is_upper x u ≡ true → Holds (resolvent x l u) e)) c)) k in
     let g = u.among (λ u. IsOf Rat u × (is_upper x u ≡ true → Holds (resolvent x l.lit u) e)) (h.1 l.passes) in
     let z = resolvent_from x e l.lit u.lit i h.0 g.0 l.passes u.passes (g.1 u.passes) in
     let v : Value = fraction (s *ℤ pos a -ℤ r *ℤ pos b) (2 * (a * b) * e.den) in
@@ -533,21 +533,21 @@ met_holds x l e v ov o f a b = by l o (coef_at x l) refl
     by m u (pos (suc k)) q = let t = low l o (ap is_positive q) in lower_from x l e v o t (a t)
     by m u (negsuc k) q = let t = high l o (ap is_negative q) in upper_from x l e v o t (b t)
 
-under : (x : ℕ) (l : Lit) (c : List Lit) (e : Point) → IsCube Rat c → EachLit (λ u. Holds (resolvent x l u) e) (filter (is_upper x) c) → EachLit (λ u. IsOf Rat u × (is_upper x u ≡ true → Holds (resolvent x l u) e)) c
+under : (x : ℕ) (l : Lit) (c : List Lit) (e : Point) → IsCube Rat c → AllByRecursion (λ u. Holds (resolvent x l u) e) (filter (is_upper x) c) → AllByRecursion (λ u. IsOf Rat u × (is_upper x u ≡ true → Holds (resolvent x l u) e)) c
 under x l c e o h =
-    each_two (IsOf Rat) (λ u. is_upper x u ≡ true → Holds (resolvent x l u) e) (λ u. IsOf Rat u × (is_upper x u ≡ true → Holds (resolvent x l u) e)) c (λ u a b. (a, b)) (each_of Rat c o) (of_filter (λ u. Holds (resolvent x l u) e) (is_upper x) c h)
+    each_two (IsOf Rat) (λ u. is_upper x u ≡ true → Holds (resolvent x l u) e) (λ u. IsOf Rat u × (is_upper x u ≡ true → Holds (resolvent x l u) e)) c (λ u a b. (a, b)) o (of_filter (λ u. Holds (resolvent x l u) e) (is_upper x) c h)
 
-pub fourier_motzkin_from : (c : List Lit) (x : ℕ) (e : Point) → IsPoint Rat e → IsCube Rat c → CubeHolds (fourier_motzkin c x) e → Solves Rat c x e
+pub fourier_motzkin_from : (c : List Lit) (x : ℕ) (e : Point) → IsPoint Rat e → IsCube Rat c → CubeHolds (fourier_motzkin c x) e → HasSolution Rat c x e
 fourier_motzkin_from c x e i o h =
     let k = cube_split (filter (is_free x) c) (flat_map (λ l. map (λ u. resolvent x l u) (filter (is_upper x) c)) (filter (is_lower x) c)) e h in
-    let frees = of_filter (λ l. Holds l e) (is_free x) c (each_holds (filter (is_free x) c) e k.0) in
-    let pairs = of_filter (λ l. EachLit (λ u. Holds (resolvent x l u) e) (filter (is_upper x) c)) (is_lower x) c (pairs_from (resolvent x) (filter (is_lower x) c) (filter (is_upper x) c) e k.1) in
-    let crossing = each_two (IsOf Rat) (λ l. is_lower x l ≡ true → EachLit (λ u. Holds (resolvent x l u) e) (filter (is_upper x) c)) (λ l. IsOf Rat l × (is_lower x l ≡ true → EachLit (λ u. IsOf Rat u × (is_upper x u ≡ true → Holds (resolvent x l u) e)) c)) c
-    (λ l a b. (a, λ t. under x l c e o (b t))) (each_of Rat c o) pairs in
+    let frees = of_filter (λ l. Holds l e) (is_free x) c k.0 in
+    let pairs = of_filter (λ l. AllByRecursion (λ u. Holds (resolvent x l u) e) (filter (is_upper x) c)) (is_lower x) c (pairs_from (resolvent x) (filter (is_lower x) c) (filter (is_upper x) c) e k.1) in
+    let crossing = each_two (IsOf Rat) (λ l. is_lower x l ≡ true → AllByRecursion (λ u. Holds (resolvent x l u) e) (filter (is_upper x) c)) (λ l. IsOf Rat l × (is_lower x l ≡ true → AllByRecursion (λ u. IsOf Rat u × (is_upper x u ≡ true → Holds (resolvent x l u) e)) c)) c
+    (λ l a b. (a, λ t. under x l c e o (b t))) o pairs in
     let v = between x e c i crossing in
     record {
       value = v.value;
       is_value = v.one;
-      holds = holds_each c (assign e x v.value) (each_four (IsOf Rat) (λ l. is_free x l ≡ true → Holds l e) (λ l. is_lower x l ≡ true → LitMeets x e (v.value.num *ℤ pos e.den) (pos v.value.den) l) (λ l. is_upper x l ≡ true → LitMeets x e (neg_ℤ (v.value.num *ℤ pos e.den)) (pos v.value.den) l) (λ l. Holds l (assign e x v.value)) c
-          (λ l a f g h. met_holds x l e v.value v.one a f g h) (each_of Rat c o) frees v.met.0 v.met.1);
+      holds = (each_four (IsOf Rat) (λ l. is_free x l ≡ true → Holds l e) (λ l. is_lower x l ≡ true → LitMeets x e (v.value.num *ℤ pos e.den) (pos v.value.den) l) (λ l. is_upper x l ≡ true → LitMeets x e (neg_ℤ (v.value.num *ℤ pos e.den)) (pos v.value.den) l) (λ l. Holds l (assign e x v.value)) c
+          (λ l a f g h. met_holds x l e v.value v.one a f g h) o frees v.met.0 v.met.1);
     }

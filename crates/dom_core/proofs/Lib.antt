@@ -10,5 +10,10 @@ pub mod Putting
 pub mod Periods
 pub mod Cooper
 pub mod FourierMotzkin
+pub mod Reducing
+pub mod Picking
+pub mod PickInt
+pub mod PickRat
+pub mod PutMoves
 pub mod Eliminating
 pub mod AddingLemmas

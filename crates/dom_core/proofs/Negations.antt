@@ -16,7 +16,7 @@ use Rattle.lin_term.proofs.Residues.{own_modulus, own_modulus_not}
 use Rattle.dom_core.specs.declared.matrix.Matrix.{Matrix as Tree}
 use Rattle.dom_core.specs.Game.{Matrix, Matrices, lit, all, some, none, more, neg_matrix, neg_matrices, IsMatrix, AreMatrices}
 use Rattle.dom_core.specs.View.{matrix_of, matrices_of}
-use Rattle.dom_core.specs.Problem.{IsKept, AreKept}
+use Rattle.dom_core.specs.Problem.{HasNegations, HaveNegations}
 use Rattle.dom_core.specs.Negation.{IsPrimitiveMatrix, ArePrimitiveMatrices, negation_numbers, negations_numbers, HasRows, HaveRows}
 use Rattle.dom_core.proofs.Views.{push_part, matrices_push}
 use Rattle.dom_core.proofs.AddingLemmas.{split_at, past_more, past_here}
@@ -122,12 +122,12 @@ own_fits Rat (NotDivides d f) p r k = absurd p.0
 own_fits Int (NotDivides d f) p r k = sym (ap (λ (l : Lit). first_past (lit_numbers l)) (neg_not_divides d f p)) ∙ k
 
 mutual
-  pub negated_kept : (m : Matrix) (s : Sort) → IsPrimitiveMatrix m s → IsKept m s → HasRows m → IsKept (neg_matrix m s) s
+  pub negated_kept : (m : Matrix) (s : Sort) → IsPrimitiveMatrix m s → HasNegations m s → HasRows m → HasNegations (neg_matrix m s) s
   negated_kept (lit l) s p k r = (prim_neg s l, ap (λ (x : Lit). first_past (lit_numbers x)) (neg_neg s l p r.0) ∙ own_fits s l p r k.1)
   negated_kept (all ms) s p k r = negated_all_kept ms s p k r
   negated_kept (some ms) s p k r = negated_all_kept ms s p k r
 
-  pub negated_all_kept : (ms : Matrices) (s : Sort) → ArePrimitiveMatrices ms s → AreKept ms s → HaveRows ms → AreKept (neg_matrices ms s) s
+  pub negated_all_kept : (ms : Matrices) (s : Sort) → ArePrimitiveMatrices ms s → HaveNegations ms s → HaveRows ms → HaveNegations (neg_matrices ms s) s
   negated_all_kept none s p k r = tt
   negated_all_kept (more m ms) s p k r = (negated_kept m s p.0 k.0 r.0, negated_all_kept ms s p.1 k.1 r.1)
 
@@ -142,12 +142,12 @@ mutual
   negated_all_twice (more m ms) s p r = ap₂ more (negated_twice m s p.0 r.0) (negated_all_twice ms s p.1 r.1)
 
 mutual
-  pub kept_primitive : (m : Matrix) (s : Sort) (n : ℕ) → IsMatrix m s n → IsKept m s → IsPrimitiveMatrix m s
+  pub kept_primitive : (m : Matrix) (s : Sort) (n : ℕ) → IsMatrix m s n → HasNegations m s → IsPrimitiveMatrix m s
   kept_primitive (lit l) s n o k = (o.0, k.0)
   kept_primitive (all ms) s n o k = kept_all_primitive ms s n o k
   kept_primitive (some ms) s n o k = kept_all_primitive ms s n o k
 
-  pub kept_all_primitive : (ms : Matrices) (s : Sort) (n : ℕ) → AreMatrices ms s n → AreKept ms s → ArePrimitiveMatrices ms s
+  pub kept_all_primitive : (ms : Matrices) (s : Sort) (n : ℕ) → AreMatrices ms s n → HaveNegations ms s → ArePrimitiveMatrices ms s
   kept_all_primitive none s n o k = tt
   kept_all_primitive (more m ms) s n o k = (kept_primitive m s n o.0 k.0, kept_all_primitive ms s n o.1 k.1)
 
@@ -155,22 +155,22 @@ past_both : (xs ys : List ℤ) → first_past xs ≡ None → first_past ys ≡ 
 past_both xs ys e f = past-append xs ys e ∙ f
 
 mutual
-  pub kept_within : (m : Matrix) (s : Sort) → IsKept m s → first_past (negation_numbers m s) ≡ None
+  pub kept_within : (m : Matrix) (s : Sort) → HasNegations m s → first_past (negation_numbers m s) ≡ None
   kept_within (lit l) s k = k.1
   kept_within (all ms) s k = kept_all_within ms s k
   kept_within (some ms) s k = kept_all_within ms s k
 
-  pub kept_all_within : (ms : Matrices) (s : Sort) → AreKept ms s → first_past (negations_numbers ms s) ≡ None
+  pub kept_all_within : (ms : Matrices) (s : Sort) → HaveNegations ms s → first_past (negations_numbers ms s) ≡ None
   kept_all_within none s k = refl
   kept_all_within (more m ms) s k = past_both (negation_numbers m s) (negations_numbers ms s) (kept_within m s k.0) (kept_all_within ms s k.1)
 
 mutual
-  pub within_kept : (m : Matrix) (s : Sort) → IsPrimitiveMatrix m s → first_past (negation_numbers m s) ≡ None → IsKept m s
+  pub within_kept : (m : Matrix) (s : Sort) → IsPrimitiveMatrix m s → first_past (negation_numbers m s) ≡ None → HasNegations m s
   within_kept (lit l) s p e = (p.1, e)
   within_kept (all ms) s p e = within_all_kept ms s p e
   within_kept (some ms) s p e = within_all_kept ms s p e
 
-  pub within_all_kept : (ms : Matrices) (s : Sort) → ArePrimitiveMatrices ms s → first_past (negations_numbers ms s) ≡ None → AreKept ms s
+  pub within_all_kept : (ms : Matrices) (s : Sort) → ArePrimitiveMatrices ms s → first_past (negations_numbers ms s) ≡ None → HaveNegations ms s
   within_all_kept none s p e = tt
   within_all_kept (more m ms) s p e = (
     within_kept m s p.0 (past-append_left (negation_numbers m s) (negations_numbers ms s) e),

@@ -1,16 +1,17 @@
 -- The period of a cube's divisibilities, and literals whose variable moves by whole periods.
 use Prim.Native.Nat.{◌∣◌}
-use Rattle.std.specs.Prelude.{ℕ, zero, suc, ◌+◌, ◌*◌, ◌/◌, ◌%◌, ◌≤◌, ◌≡◌, ℤ, pos, negsuc, ◌+ℤ◌, ◌-ℤ◌, ◌*ℤ◌, ◌≤ℤ◌, neg_ℤ, nat_abs, List, [], ◌∷◌, ⊤}
-use Rattle.std.proofs.Common.{arith, ap, ◌∙◌, sym, subst, refl}
+use Rattle.std.specs.Prelude.{ℕ, zero, suc, ◌*◌, ◌/◌, ◌%◌, ◌≤◌, ◌≡◌, ℤ, pos, negsuc, ◌+ℤ◌, ◌-ℤ◌, ◌*ℤ◌, ◌≤ℤ◌, neg_ℤ, nat_abs, List, [], ◌∷◌, ⊤}
+use Rattle.std.specs.List.{AllByRecursion}
+use Rattle.std.proofs.Common.{arith, ap, ◌∙◌, sym, subst}
 use Rattle.std.proofs.lemmas.Int.{ints}
 use Rattle.std.proofs.lemmas.Nat.Gcd.{dvd_trans, dvd_refl, mod-eq-zero_of_dvd}
 use Rattle.std.proofs.Math.Nat.{mul-le-mul, eq-zero_of_zero-dvd, dvd_of_mod-eq-zero, mul-dvd-mul, mul-dvd-mul_left, dvd-mul_left, dvd-mul_right, dvd-mul_right_of_dvd, mul_assoc, mul_left_comm}
 use Rattle.lin_term.specs.Form.{Form}
-use Rattle.lin_term.specs.declared.Sort.TheVariants.{Rat, Int}
+use Rattle.lin_term.specs.declared.Sort.TheVariants.{Int}
 use Rattle.lin_term.specs.declared.Lit.{Lit}
 use Rattle.lin_term.specs.declared.Lit.TheVariants.{AtLeast, Above, Divides, NotDivides}
 use Rattle.lin_term.specs.Linear.{Point, IsPoint, dot}
-use Rattle.lin_term.specs.Literal.{Holds, IsOf, gcd}
+use Rattle.lin_term.specs.Literal.{Holds, gcd}
 use Rattle.lin_term.specs.PutIn.{coef, rest_of}
 use Rattle.lin_term.proofs.Ring.{ring, mul_neg_ℤ}
 use Rattle.lin_term.proofs.Dividing.{abs_product, abs_sub_divides, one_den_mod}
@@ -18,7 +19,6 @@ use Rattle.lin_term.proofs.PrimitiveLemmas.{gcd_is, whole_div}
 use Rattle.dom_core.specs.Cube.{assign, IsCube}
 use Rattle.dom_core.specs.Elimination.{next_delta, partial_deltas, last_of, delta}
 use Rattle.dom_core.proofs.Assigning.{whole, whole_point, dot-whole}
-use Rattle.dom_core.proofs.Cases.{EachLit}
 
 pub gcd_pos : (a b : ℕ) → 1 ≤ a → 1 ≤ gcd a b
 gcd_pos a b o = one (gcd a b) (gcd_is a b).0
@@ -70,7 +70,7 @@ Period n x (Above f) = ⊤
 Period n x (Divides d f) = d ∣ (nat_abs (coef f.terms x) * n)
 Period n x (NotDivides d f) = d ∣ (nat_abs (coef f.terms x) * n)
 
-last_facts : (n : ℕ) (c : List Lit) (x : ℕ) → 1 ≤ n → IsCube Int c → (n ∣ last_of n (partial_deltas n c x)) × (1 ≤ last_of n (partial_deltas n c x)) × EachLit (Period (last_of n (partial_deltas n c x)) x) c
+last_facts : (n : ℕ) (c : List Lit) (x : ℕ) → 1 ≤ n → IsCube Int c → (n ∣ last_of n (partial_deltas n c x)) × (1 ≤ last_of n (partial_deltas n c x)) × AllByRecursion (Period (last_of n (partial_deltas n c x)) x) c
 last_facts n [] x o k = (dvd_refl n, o, tt)
 last_facts n (AtLeast f ∷ c) x o k = let r = last_facts n c x o k.1 in (r.0, r.1, (tt, r.2))
 last_facts n (Above f ∷ c) x o k = absurd k.0
@@ -84,7 +84,7 @@ last_facts n (NotDivides d f ∷ c) x o k =
     (dvd_trans n s.0 r.0, r.1, (dvd_trans d s.1 (mul-dvd-mul_left (next_delta n d (coef f.terms x)) (nat_abs (coef f.terms x)) r.0), r.2))
 
 -- delta is a period, and 1 or more
-pub delta_period : (c : List Lit) (x : ℕ) → IsCube Int c → (1 ≤ delta c x) × EachLit (Period (delta c x) x) c
+pub delta_period : (c : List Lit) (x : ℕ) → IsCube Int c → (1 ≤ delta c x) × AllByRecursion (Period (delta c x) x) c
 delta_period c x k = let r = last_facts 1 c x (omega arith) k in (r.1, r.2)
 
 -- ---- a literal whose variable moves by whole periods

@@ -10,7 +10,7 @@ use Rattle.lin_term.specs.declared.Lit.TheVariants.{AtLeast, Above, Divides, Not
 use Rattle.lin_term.specs.Literal.{IsOf, form_of, rename_lit, prim, neg, opposite, quotient, quotient_terms, whole_form, whole_by, divisor, minus_one, residue, reduce_terms, reduce, common_divisor, residue_form, modulus_of, gcd_terms, gcd, or_one, IsPrimitive}
 use Rattle.dom_core.specs.Game.{Matrix, lit, all, some, Matrices, none, more, HoldsIn, AllHold, AllFail, neg_matrix, neg_matrices, rename_matrix, rename_matrices, IsMatrix, AreMatrices}
 use Rattle.lin_term.proofs.Dots.{Agree}
-use Rattle.lin_term.proofs.Holding.{to_names}
+use Rattle.lin_term.proofs.Holding.{to_names, from_names}
 use Rattle.lin_term.proofs.PrimitiveLemmas.{modulus_one}
 
 mutual
@@ -28,6 +28,22 @@ mutual
   fail_from_names none s names e p ie ip a o h = tt
   fail_from_names (more m ms) s names e p ie ip a o h =
       (λ k. h.0 (matrix_to_names m s names e p ie ip a o.0 k), fail_from_names ms s names e p ie ip a o.1 h.1)
+
+mutual
+  pub matrix_from_names : (m : Matrix) (s : Sort) (names : List ℕ) (e p : Point) → IsPoint s e → IsPoint s p → Agree names e p → IsMatrix m s (length names) → HoldsIn (rename_matrix m names) p → HoldsIn m e
+  matrix_from_names (lit l) s names e p ie ip a o h = from_names s names e p ie ip a l o.0 o.1 h
+  matrix_from_names (all ms) s names e p ie ip a o h = all_from_names ms s names e p ie ip a o h
+  matrix_from_names (some ms) s names e p ie ip a o h = λ k. h (fail_to_names ms s names e p ie ip a o k)
+
+  pub all_from_names : (ms : Matrices) (s : Sort) (names : List ℕ) (e p : Point) → IsPoint s e → IsPoint s p → Agree names e p → AreMatrices ms s (length names) → AllHold (rename_matrices ms names) p → AllHold ms e
+  all_from_names none s names e p ie ip a o h = tt
+  all_from_names (more m ms) s names e p ie ip a o h =
+      (matrix_from_names m s names e p ie ip a o.0 h.0, all_from_names ms s names e p ie ip a o.1 h.1)
+
+  pub fail_to_names : (ms : Matrices) (s : Sort) (names : List ℕ) (e p : Point) → IsPoint s e → IsPoint s p → Agree names e p → AreMatrices ms s (length names) → AllFail ms e → AllFail (rename_matrices ms names) p
+  fail_to_names none s names e p ie ip a o h = tt
+  fail_to_names (more m ms) s names e p ie ip a o h =
+      (λ k. h.0 (matrix_from_names m s names e p ie ip a o.0 k), fail_to_names ms s names e p ie ip a o.1 h.1)
 
 -- ---- negation keeps the variables
 

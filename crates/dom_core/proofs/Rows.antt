@@ -2,7 +2,6 @@
 use Rattle.std.specs.Prelude.{ℕ, ◌≡◌, ℤ, pos, negsuc, List, [], ◌∷◌}
 use Rattle.std.proofs.Common.{refl}
 use Rattle.lin_term.specs.declared.Sort.TheVariants.{Rat, Int}
-use Rattle.lin_term.specs.declared.Lit.{Lit}
 use Rattle.lin_term.specs.declared.Lit.TheVariants.{AtLeast, Above, Divides, NotDivides}
 use Rattle.lin_term.specs.Form.{Form}
 use Rattle.lin_term.specs.Literal.{gcd}

@@ -1,5 +1,6 @@
 -- Cubes: conjunctions of literals, and their truth at points.
 use Rattle.std.specs.Prelude.{ℕ, zero, suc, ◌*◌, ◌⊎◌, ℤ, pos, ◌*ℤ◌, List, [], ◌∷◌, ⊤}
+use Rattle.std.specs.List.{AllByRecursion}
 use Rattle.lin_term.specs.declared.Sort.{Sort}
 use Rattle.lin_term.specs.declared.Lit.{Lit}
 use Rattle.lin_term.specs.Linear.{Point, Value, IsValue, scale_all}
@@ -8,8 +9,7 @@ use Rattle.lin_term.specs.Primable.{IsPrimable}
 
 -- all literals hold
 abbrev pub CubeHolds : List Lit → Point → Type 0
-CubeHolds [] p = ⊤
-CubeHolds (l ∷ ls) p = Holds l p × CubeHolds ls p
+CubeHolds c p = AllByRecursion (λ l. Holds l p) c
 
 -- one of the cubes holds
 abbrev pub SomeHolds : List (List Lit) → Point → Type 0
@@ -18,8 +18,7 @@ SomeHolds (c ∷ cs) p = CubeHolds c p ⊎ SomeHolds cs p
 
 -- each literal is of the sort
 abbrev pub IsCube : Sort → List Lit → Type 0
-IsCube s [] = ⊤
-IsCube s (l ∷ ls) = IsOf s l × IsCube s ls
+IsCube s c = AllByRecursion (IsOf s) c
 
 -- each literal is primitive, each modulus from 1 to the cap
 abbrev pub IsPrimitiveCube : Sort → List Lit → Type 0
@@ -38,7 +37,7 @@ abbrev pub assign : Point → ℕ → Value → Point
 assign p x v = record { den = p.den * v.den; nums = set_at (scale_all (pos v.den) p.nums) x (v.num *ℤ pos p.den) }
 
 -- a value for x makes the cube true
-pub record Solves (s : Sort) (c : List Lit) (x : ℕ) (p : Point) : Type 0 where
+pub record HasSolution (s : Sort) (c : List Lit) (x : ℕ) (p : Point) : Type 0 where
   pub value : Value
   pub is_value : IsValue s value
   pub holds : CubeHolds c (assign p x value)

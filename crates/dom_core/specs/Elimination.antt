@@ -86,8 +86,8 @@ abbrev pub delta : List Lit → ℕ → ℕ
 delta c x = last_of 1 (partial_deltas 1 c x)
 
 -- t/a put in for x in each literal
-abbrev pub put_all : ℕ → ℕ → Form → List Lit → List Lit
-put_all x a t c = map (λ l. put_lit Int x a t l) c
+abbrev pub put_all : Sort → ℕ → ℕ → Form → List Lit → List Lit
+put_all s x a t c = map (λ l. put_lit s x a t l) c
 
 -- k - l, where the lower literal is a*x + l >= 0
 abbrev pub above_bound : ℕ → Lit → ℕ → Form
@@ -98,7 +98,7 @@ abbrev pub lower_case : ℕ → List Lit → Lit → List Lit → ℕ → List L
 lower_case x before l after k =
     let a = size_at x l in
     let t = above_bound x l k in
-    put_all x a t before ++ prim Int (Divides a t) ∷ put_all x a t after
+    put_all Int x a t before ++ prim Int (Divides a t) ∷ put_all Int x a t after
 
 -- for each lower literal in order, k from 0 to a*n - 1
 abbrev pub lower_cases : ℕ → ℕ → List Lit → List Lit → List (List Lit)
@@ -109,7 +109,7 @@ lower_cases x n before (l ∷ after) =
 
 -- x = k far below: no upper literal is left
 abbrev pub free_case : ℕ → List Lit → ℕ → List Lit
-free_case x c k = put_all x 1 (constant_form (pos k)) (filter (λ l. not (is_upper x l)) c)
+free_case x c k = put_all Int x 1 (constant_form (pos k)) (filter (λ l. not (is_upper x l)) c)
 
 abbrev pub cooper : List Lit → ℕ → List (List Lit)
 cooper c x =

@@ -3,5 +3,9 @@ pub mod View
 pub mod Problem
 pub mod Negation
 pub mod Cube
+pub mod Reduced
+pub mod Pick
+pub mod PutMove
+pub mod Sides
 pub mod Elimination
 pub mod Adding

@@ -18,17 +18,17 @@ problem_of P = record { prefix = P.prefix; matrix = matrix_of P.matrix }
 
 -- each literal is primitive, and its negation is within the cap
 abbrev mutual
-  pub IsKept : Matrix → Sort → Type 0
-  IsKept (lit l) s = (prim s l ≡ l) × (first_past (lit_numbers (neg s l)) ≡ None)
-  IsKept (all ms) s = AreKept ms s
-  IsKept (some ms) s = AreKept ms s
+  pub HasNegations : Matrix → Sort → Type 0
+  HasNegations (lit l) s = (prim s l ≡ l) × (first_past (lit_numbers (neg s l)) ≡ None)
+  HasNegations (all ms) s = HaveNegations ms s
+  HasNegations (some ms) s = HaveNegations ms s
 
-  pub AreKept : Matrices → Sort → Type 0
-  AreKept none s = ⊤
-  AreKept (more m ms) s = IsKept m s × AreKept ms s
+  pub HaveNegations : Matrices → Sort → Type 0
+  HaveNegations none s = ⊤
+  HaveNegations (more m ms) s = HasNegations m s × HaveNegations ms s
 
 abbrev pub IsProblem : Sort → WrittenProblem → Type 0
-IsProblem s P = (length P.prefix ≤ 1024) × IsMatrix (matrix_of P.matrix) s (length P.prefix) × IsKept (matrix_of P.matrix) s
+IsProblem s P = (length P.prefix ≤ 1024) × IsMatrix (matrix_of P.matrix) s (length P.prefix) × HasNegations (matrix_of P.matrix) s
 
 -- the problem is true: Exists has a strategy
 abbrev pub IsTrueProblem : Sort → WrittenProblem → Type 0

@@ -2,15 +2,19 @@
 
 ghost use Rattle.std.specs.Prelude.{◌≡◌, IfOk, OnErr};
 ghost use Rattle.lin_term.specs.declared.Lit.{Lit as a_literal};
+ghost use Rattle.lin_term.specs.Form.{IsRow};
+ghost use Rattle.lin_term.specs.Literal.{form_of};
 ghost use Rattle.lin_term.specs.Wide.{Capped, lit_numbers};
 ghost use Rattle.dom_core.specs.Adding.{AddsLit};
+ghost use Rattle.dom_core.specs.Reduced.{AreRows};
 
 use lin_term::{Lit, Memory, Short, Wide};
 use sqlite_items::Items;
 use std::alloc::Global;
 use std::marker::Model;
 
-/// A conjunction of literals, in order, repeated ones too. The cube without literals is true.
+/// A conjunction of literals, in order, repeated ones too. The cube without literals is true. Each literal's form is a
+/// row.
 #[derive(Debug, Drop)]
 pub struct Cube {
     lits: Items<Lit>,
@@ -19,10 +23,31 @@ pub struct Cube {
 impl Model for Cube {
     ghost use Rattle.std.specs.Prelude.{List};
     ghost use Rattle.lin_term.specs.declared.Lit.{Lit};
+    ghost use Rattle.dom_core.specs.Reduced.{AreRows};
 
     ghost Value = { List Lit };
 
     ghost view = { λ c. c.lits };
+
+    ghost invariant = { λ c. AreRows c.lits };
+}
+
+/// What is read of rows says that they are rows.
+fn read_rows(lits: &[Lit])
+    ensures { AreRows lits.now }
+{
+    for lit in lits {
+        read_row(lit);
+    }
+}
+
+/// What is read of a literal's row says that it is one.
+fn read_row(lit: &Lit)
+    ensures { IsRow (form_of lit.now) }
+{
+    let row = lit.row();
+    let _terms = row.coefs();
+    let _constant = row.constant_part();
 }
 
 impl Cube {
@@ -30,12 +55,14 @@ impl Cube {
     pub fn from_lits(lits: Items<Lit>) -> Cube
         ensures { result ≡ lits }
     {
+        read_rows(lits.as_slice());
         Cube { lits }
     }
 
-    /// The literals in order.
+    /// The literals in order, each one's form a row.
     pub fn lits(&self) -> &[Lit]
-        ensures { result.now ≡ self.now }
+        ensures value { result.now ≡ self.now }
+        ensures rows { AreRows result.now }
     {
         self.lits.as_slice()
     }

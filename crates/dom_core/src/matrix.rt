@@ -1,6 +1,6 @@
 //! Formulas without quantifiers.
 
-ghost use Rattle.std.specs.Prelude.{◌≡◌, IfOk};
+ghost use Rattle.std.specs.Prelude.{◌≡◌, ◌↔◌, IfOk, IsTrue};
 
 use lin_term::{Lit, Memory};
 use sqlite_items::Items;
@@ -26,6 +26,46 @@ impl Matrix {
             Matrix::Or(parts) => Ok(Matrix::Or(copy_all(alloc, parts.as_slice())?)),
         }
     }
+
+    /// Whether the matrices are equal: the same literals and parts in the same order. Equivalent matrices that are written
+    /// in two ways are not.
+    #[cycle(same)]
+    pub fn is_same(&self, other: &Matrix) -> bool
+        ensures { IsTrue result ↔ (self.now ≡ other.now) }
+    {
+        match self {
+            Matrix::Lit(lit) => match other {
+                Matrix::Lit(found) => lit.is_same(found),
+                _ => false,
+            },
+            Matrix::And(parts) => match other {
+                Matrix::And(others) => are_same(parts.as_slice(), others.as_slice()),
+                _ => false,
+            },
+            Matrix::Or(parts) => match other {
+                Matrix::Or(others) => are_same(parts.as_slice(), others.as_slice()),
+                _ => false,
+            },
+        }
+    }
+}
+
+/// Whether the parts are equal, one by one.
+#[cycle(same)]
+fn are_same(parts: &[Matrix], others: &[Matrix]) -> bool
+    ensures { IsTrue result ↔ (parts.now ≡ others.now) }
+{
+    if parts.len() != others.len() {
+        return false;
+    }
+    let mut index: usize = 0;
+    for part in parts {
+        if !part.is_same(&others[index]) {
+            return false;
+        }
+        index += 1;
+    }
+    true
 }
 
 /// Equal parts; refuses only for memory.

@@ -1,6 +1,6 @@
 //! A prefix over a matrix.
 
-ghost use Rattle.std.specs.Prelude.{◌≡◌, ◌≤◌, ◌↔◌, IfOk, length};
+ghost use Rattle.std.specs.Prelude.{◌≡◌, ◌≤◌, ◌↔◌, IfOk, IsTrue, length};
 ghost use Rattle.lin_term.specs.Wide.{Capped};
 ghost use Rattle.dom_core.specs.Game.{IsMatrix, dual};
 ghost use Rattle.dom_core.specs.View.{matrix_of};
@@ -10,7 +10,7 @@ ghost use Rattle.dom_core.specs.Negation.{IsPrimitiveMatrix, negation_numbers};
 use crate::domain::Domain;
 use crate::matrix::Matrix;
 use crate::negation::{negated, wide_negation};
-use crate::quant::{Quant, flipped};
+use crate::quant::{Quant, flipped, is_same_prefix};
 use lin_term::{Memory, Short, Wide};
 use sqlite_items::Items;
 use std::alloc::Global;
@@ -97,6 +97,13 @@ impl<D: Domain> Problem<D> {
             matrix,
             of: PhantomData,
         })
+    }
+
+    /// Whether the problems are equal: the same prefix, and the same matrix as it is written.
+    pub fn is_same(&self, other: &Problem<D>) -> bool
+        ensures { IsTrue result ↔ (self.now ≡ other.now) }
+    {
+        is_same_prefix(self.prefix(), other.prefix()) && self.matrix().is_same(other.matrix())
     }
 
     /// The problem in which the players have changed places: each quantifier flipped, the matrix negated, with its

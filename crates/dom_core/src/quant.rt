@@ -1,7 +1,8 @@
 //! Quantifiers and players.
 
-ghost use Rattle.std.specs.Prelude.{◌≡◌, IfOk};
+ghost use Rattle.std.specs.Prelude.{◌≡◌, ◌↔◌, IfOk, IsTrue};
 ghost use Rattle.dom_core.specs.Game.{flip, flip_all};
+ghost use Rattle.dom_core.specs.Sides.{other};
 
 use lin_term::Memory;
 use sqlite_items::Items;
@@ -21,6 +22,18 @@ pub enum Side {
     Forall,
 }
 
+impl Side {
+    /// The other player.
+    pub fn other(self) -> Side
+        ensures { result ≡ other self }
+    {
+        match self {
+            Side::Exists => Side::Forall,
+            Side::Forall => Side::Exists,
+        }
+    }
+}
+
 /// The other quantifier.
 fn flip(quant: Quant) -> Quant
     ensures { result ≡ flip quant }
@@ -29,6 +42,39 @@ fn flip(quant: Quant) -> Quant
         Quant::Exists => Quant::Forall,
         Quant::Forall => Quant::Exists,
     }
+}
+
+/// Whether the quantifiers are equal.
+fn is_same(a: Quant, b: Quant) -> bool
+    ensures { IsTrue result ↔ (a ≡ b) }
+{
+    match a {
+        Quant::Exists => match b {
+            Quant::Exists => true,
+            Quant::Forall => false,
+        },
+        Quant::Forall => match b {
+            Quant::Exists => false,
+            Quant::Forall => true,
+        },
+    }
+}
+
+/// Whether the prefixes are equal, one by one.
+pub(crate) fn is_same_prefix(prefix: &[Quant], other: &[Quant]) -> bool
+    ensures { IsTrue result ↔ (prefix.now ≡ other.now) }
+{
+    if prefix.len() != other.len() {
+        return false;
+    }
+    let mut index: usize = 0;
+    for quant in prefix {
+        if !is_same(*quant, other[index]) {
+            return false;
+        }
+        index += 1;
+    }
+    true
 }
 
 /// Each quantifier flipped; refuses only for memory.

@@ -98,32 +98,32 @@ free_split x c i k l h e = ap (λ (us : List Lit). free_case x us k) (split_at c
 
 -- ---- a case in its three parts
 
-term_numbers : (x a : ℕ) (t : Form) (c : List Lit) (place : ℕ) → cube_numbers (term_case x a t c place) ≡ cube_numbers (put_all x a t (take place c)) ++ (lit_numbers (prim Int (Divides a t)) ++ cube_numbers (put_all x a t (drop (place + 1) c)))
-term_numbers x a t c place = numbers-append (put_all x a t (take place c)) (prim Int (Divides a t) ∷ put_all x a t (drop (place + 1) c))
+term_numbers : (x a : ℕ) (t : Form) (c : List Lit) (place : ℕ) → cube_numbers (term_case x a t c place) ≡ cube_numbers (put_all Int x a t (take place c)) ++ (lit_numbers (prim Int (Divides a t)) ++ cube_numbers (put_all Int x a t (drop (place + 1) c)))
+term_numbers x a t c place = numbers-append (put_all Int x a t (take place c)) (prim Int (Divides a t) ∷ put_all Int x a t (drop (place + 1) c))
 
-pub first_part_refused : {A : Type 0} (out new : List Lit) (x a : ℕ) (t : Form) (c : List Lit) (place : ℕ) (value : A) (e : Short Wide) → AddsCube out new (put_all x a t (take place c)) (Err e) → Capped {A = A} (cube_numbers (term_case x a t c place)) value (Err e)
+pub first_part_refused : {A : Type 0} (out new : List Lit) (x a : ℕ) (t : Form) (c : List Lit) (place : ℕ) (value : A) (e : Short Wide) → AddsCube out new (put_all Int x a t (take place c)) (Err e) → Capped {A = A} (cube_numbers (term_case x a t c place)) value (Err e)
 first_part_refused out new x a t c place value (short.Fault w) h =
-    ap first_past (term_numbers x a t c place) ∙ past-append_some (cube_numbers (put_all x a t (take place c))) (lit_numbers (prim Int (Divides a t)) ++ cube_numbers (put_all x a t (drop (place + 1) c))) w.number h
+    ap first_past (term_numbers x a t c place) ∙ past-append_some (cube_numbers (put_all Int x a t (take place c))) (lit_numbers (prim Int (Divides a t)) ++ cube_numbers (put_all Int x a t (drop (place + 1) c))) w.number h
 first_part_refused out new x a t c place value short.Memory h = tt
 
-pub divides_refused : {A : Type 0} (out new : List Lit) (x a : ℕ) (t : Form) (c : List Lit) (place : ℕ) (value : A) (e : Short Wide) → first_past (cube_numbers (put_all x a t (take place c))) ≡ None → AddsLit out new (prim Int (Divides a t)) (Err e) → Capped {A = A} (cube_numbers (term_case x a t c place)) value (Err e)
+pub divides_refused : {A : Type 0} (out new : List Lit) (x a : ℕ) (t : Form) (c : List Lit) (place : ℕ) (value : A) (e : Short Wide) → first_past (cube_numbers (put_all Int x a t (take place c))) ≡ None → AddsLit out new (prim Int (Divides a t)) (Err e) → Capped {A = A} (cube_numbers (term_case x a t c place)) value (Err e)
 divides_refused out new x a t c place value (short.Fault w) n h =
-    ap first_past (term_numbers x a t c place) ∙ past-append (cube_numbers (put_all x a t (take place c))) (lit_numbers (prim Int (Divides a t)) ++ cube_numbers (put_all x a t (drop (place + 1) c))) n
-    ∙ past-append_some (lit_numbers (prim Int (Divides a t))) (cube_numbers (put_all x a t (drop (place + 1) c))) w.number h
+    ap first_past (term_numbers x a t c place) ∙ past-append (cube_numbers (put_all Int x a t (take place c))) (lit_numbers (prim Int (Divides a t)) ++ cube_numbers (put_all Int x a t (drop (place + 1) c))) n
+    ∙ past-append_some (lit_numbers (prim Int (Divides a t))) (cube_numbers (put_all Int x a t (drop (place + 1) c))) w.number h
 divides_refused out new x a t c place value short.Memory n h = tt
 
-last_numbers : (x a : ℕ) (t : Form) (c : List Lit) (place : ℕ) → first_past (cube_numbers (put_all x a t (take place c))) ≡ None → first_past (lit_numbers (prim Int (Divides a t))) ≡ None → first_past (cube_numbers (term_case x a t c place)) ≡ first_past (cube_numbers (put_all x a t (drop (place + 1) c)))
+last_numbers : (x a : ℕ) (t : Form) (c : List Lit) (place : ℕ) → first_past (cube_numbers (put_all Int x a t (take place c))) ≡ None → first_past (lit_numbers (prim Int (Divides a t))) ≡ None → first_past (cube_numbers (term_case x a t c place)) ≡ first_past (cube_numbers (put_all Int x a t (drop (place + 1) c)))
 last_numbers x a t c place n m =
-    ap first_past (term_numbers x a t c place) ∙ past-append (cube_numbers (put_all x a t (take place c))) (lit_numbers (prim Int (Divides a t)) ++ cube_numbers (put_all x a t (drop (place + 1) c))) n
-    ∙ past-append (lit_numbers (prim Int (Divides a t))) (cube_numbers (put_all x a t (drop (place + 1) c))) m
+    ap first_past (term_numbers x a t c place) ∙ past-append (cube_numbers (put_all Int x a t (take place c))) (lit_numbers (prim Int (Divides a t)) ++ cube_numbers (put_all Int x a t (drop (place + 1) c))) n
+    ∙ past-append (lit_numbers (prim Int (Divides a t))) (cube_numbers (put_all Int x a t (drop (place + 1) c))) m
 
-pub last_part_refused : {A : Type 0} (out new : List Lit) (x a : ℕ) (t : Form) (c : List Lit) (place : ℕ) (value : A) (e : Short Wide) → first_past (cube_numbers (put_all x a t (take place c))) ≡ None → first_past (lit_numbers (prim Int (Divides a t))) ≡ None → AddsCube out new (put_all x a t (drop (place + 1) c)) (Err e) → Capped {A = A} (cube_numbers (term_case x a t c place)) value (Err e)
+pub last_part_refused : {A : Type 0} (out new : List Lit) (x a : ℕ) (t : Form) (c : List Lit) (place : ℕ) (value : A) (e : Short Wide) → first_past (cube_numbers (put_all Int x a t (take place c))) ≡ None → first_past (lit_numbers (prim Int (Divides a t))) ≡ None → AddsCube out new (put_all Int x a t (drop (place + 1) c)) (Err e) → Capped {A = A} (cube_numbers (term_case x a t c place)) value (Err e)
 last_part_refused out new x a t c place value (short.Fault w) n m h = last_numbers x a t c place n m ∙ h
 last_part_refused out new x a t c place value short.Memory n m h = tt
 
-pub all_parts : (one two three result : List Lit) (x a : ℕ) (t : Form) (c : List Lit) (place : ℕ) → (first_past (cube_numbers (put_all x a t (take place c))) ≡ None) × (one ≡ [] ++ put_all x a t (take place c)) → (first_past (lit_numbers (prim Int (Divides a t))) ≡ None) × (two ≡ one ++ prim Int (Divides a t) ∷ []) → (first_past (cube_numbers (put_all x a t (drop (place + 1) c))) ≡ None) × (three ≡ two ++ put_all x a t (drop (place + 1) c)) → result ≡ three → (first_past (cube_numbers (term_case x a t c place)) ≡ None) × (result ≡ term_case x a t c place)
+pub all_parts : (one two three result : List Lit) (x a : ℕ) (t : Form) (c : List Lit) (place : ℕ) → (first_past (cube_numbers (put_all Int x a t (take place c))) ≡ None) × (one ≡ [] ++ put_all Int x a t (take place c)) → (first_past (lit_numbers (prim Int (Divides a t))) ≡ None) × (two ≡ one ++ prim Int (Divides a t) ∷ []) → (first_past (cube_numbers (put_all Int x a t (drop (place + 1) c))) ≡ None) × (three ≡ two ++ put_all Int x a t (drop (place + 1) c)) → result ≡ three → (first_past (cube_numbers (term_case x a t c place)) ≡ None) × (result ≡ term_case x a t c place)
 all_parts one two three result x a t c place p q r e = (
   last_numbers x a t c place p.0 q.0 ∙ r.0,
-  e ∙ r.1 ∙ ap (λ us. us ++ put_all x a t (drop (place + 1) c)) (q.1 ∙ ap (λ us. us ++ prim Int (Divides a t) ∷ []) p.1)
-      ∙ append_assoc (put_all x a t (take place c)) (prim Int (Divides a t) ∷ []) (put_all x a t (drop (place + 1) c)),
+  e ∙ r.1 ∙ ap (λ us. us ++ put_all Int x a t (drop (place + 1) c)) (q.1 ∙ ap (λ us. us ++ prim Int (Divides a t) ∷ []) p.1)
+      ∙ append_assoc (put_all Int x a t (take place c)) (prim Int (Divides a t) ∷ []) (put_all Int x a t (drop (place + 1) c)),
 )

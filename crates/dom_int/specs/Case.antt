@@ -13,4 +13,4 @@ case_at c x i = get_or (cooper c x) i []
 
 -- t/a put in for x, and that a divides t at one place
 abbrev pub term_case : ℕ → ℕ → Form → List Lit → ℕ → List Lit
-term_case x a t c place = put_all x a t (take place c) ++ prim Int (Divides a t) ∷ put_all x a t (drop (place + 1) c)
+term_case x a t c place = put_all Int x a t (take place c) ++ prim Int (Divides a t) ∷ put_all Int x a t (drop (place + 1) c)

@@ -94,7 +94,7 @@ fn put_each(
     requires constant_size { nat_abs constant ≤ 2 ^ 53 }
     requires div_least { pos 1 ≤ℤ div }
     requires div_kept { nat_abs div ≤ cap }
-    ensures { AddsCube out.old out.new (put_all var (nat_abs div) (record { terms = terms.now; constant = constant }) lits.now) result }
+    ensures { AddsCube out.old out.new (put_all Int var (nat_abs div) (record { terms = terms.now; constant = constant }) lits.now) result }
 {
     for lit in lits {
         match add_put(alloc, out, lit, var, terms, constant, div) {

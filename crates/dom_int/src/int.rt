@@ -14,6 +14,8 @@ impl Domain for Int {
     ghost use Rattle.lin_term.specs.declared.Sort.TheVariants.{Int as whole};
     ghost use Rattle.lin_term.proofs.Fixed.{names_fix};
     ghost use Rattle.dom_core.proofs.Eliminating.{eliminated_covers, eliminated_solves};
+    ghost use Rattle.dom_core.proofs.PickInt.{keeps_int};
+    ghost use Rattle.dom_core.proofs.PutMoves.{puts, puts_back};
 
     const SORT: Sort = Sort::Int;
 
@@ -32,4 +34,10 @@ impl Domain for Int {
     ghost covers = { λ c x p v. eliminated_covers whole c x p v };
 
     ghost solves = { λ c x p. eliminated_solves whole c x p };
+
+    ghost keeps = { λ c x p v. keeps_int x c p v };
+
+    ghost puts = { λ c x m e p. puts whole x m e c p };
+
+    ghost puts_back = { λ c x m p. puts_back whole x m c p };
 }

@@ -1,6 +1,7 @@
 //! Each lower literal with each upper one: the sum that cancels the variable.
 
-ghost use Rattle.std.specs.Prelude.{◌≡◌, ◌≤◌, nat_abs, map, filter, [], ◌∷◌};
+ghost use Rattle.std.specs.Prelude.{◌≡◌, ◌≤◌, ℕ, nat_abs, map, filter, [], ◌∷◌, IfOk};
+ghost use Rattle.std.specs.List.{AllByRecursion};
 ghost use Rattle.lin_term.specs.declared.Sort.TheVariants.{Rat};
 ghost use Rattle.lin_term.specs.Form.{cap};
 ghost use Rattle.lin_term.specs.Primable.{IsPrimable};
@@ -9,6 +10,7 @@ ghost use Rattle.lin_term.specs.Wide.{Capped, lit_numbers};
 ghost use Rattle.dom_core.specs.Cube.{IsPrimitiveCube};
 ghost use Rattle.dom_core.specs.Elimination.{is_lower as is_lower_literal, is_upper as is_upper_literal, is_free, size_at, resolvent as resolvent_of, fourier_motzkin, cube_numbers, elimination_numbers, eliminated};
 ghost use Rattle.dom_core.specs.Adding.{AddsCube};
+ghost use Rattle.dom_core.specs.Reduced.{AreBelow, IsReduced};
 ghost use Rattle.dom_rat.specs.Sums.{sums_of, all_sums};
 
 use dom_core::{Cube, add_made, is_lower, is_upper};
@@ -167,9 +169,18 @@ fn eliminated_cube(alloc: Global, cube: &[Lit], var: u32) -> Result<Cube, Short<
 /// only for memory.
 pub(crate) fn eliminate(alloc: Global, cube: &Cube, var: u32) -> Result<Items<Cube>, Short<Wide>>
     requires { IsPrimitiveCube Rat cube.now }
+    ensures value { Capped (elimination_numbers Rat cube.now var) (eliminated Rat cube.now var) result }
+    ensures reduced { IfOk result (λ cs. (n : ℕ) → AreBelow n cube.now → AllByRecursion (IsReduced Rat n var) cs) }
+{
+    eliminated_list(alloc, cube.lits(), var)
+}
+
+/// The same of the cube's literals.
+fn eliminated_list(alloc: Global, cube: &[Lit], var: u32) -> Result<Items<Cube>, Short<Wide>>
+    requires { IsPrimitiveCube Rat cube.now }
     ensures { Capped (elimination_numbers Rat cube.now var) (eliminated Rat cube.now var) result }
 {
-    match eliminated_cube(alloc, cube.lits(), var) {
+    match eliminated_cube(alloc, cube, var) {
         Ok(made) => {
             let mut cubes = Items::new(alloc);
             match cubes.push(made) {

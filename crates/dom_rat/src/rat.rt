@@ -14,6 +14,8 @@ impl Domain for Rat {
     ghost use Rattle.lin_term.specs.declared.Sort.TheVariants.{Rat as rational};
     ghost use Rattle.lin_term.proofs.Fixed.{names_fix};
     ghost use Rattle.dom_core.proofs.Eliminating.{eliminated_covers, eliminated_solves};
+    ghost use Rattle.dom_core.proofs.PickRat.{keeps_rat};
+    ghost use Rattle.dom_core.proofs.PutMoves.{puts, puts_back};
 
     const SORT: Sort = Sort::Rat;
 
@@ -32,4 +34,10 @@ impl Domain for Rat {
     ghost covers = { λ c x p v. eliminated_covers rational c x p v };
 
     ghost solves = { λ c x p. eliminated_solves rational c x p };
+
+    ghost keeps = { λ c x p v. keeps_rat x c p v };
+
+    ghost puts = { λ c x m e p. puts rational x m e c p };
+
+    ghost puts_back = { λ c x m p. puts_back rational x m c p };
 }

@@ -12,8 +12,8 @@ fn is_primitive_literal(alloc: Global) -> Result<bool, FormFault> {
     let one = Boxed::new(alloc, Term::Number { num: 1, den: 1 })?;
     let form = normal_form(alloc, Sort::Int, &[VarSort::Number], &Term::Less(x, one))?;
     match form {
-        Normal::Exists(inner) => match inner.get() {
-            Normal::Lit(Lit::AtLeast(row)) => {
+        LevelForm::Exists(inner) => match inner.get() {
+            LevelForm::Lit(Lit::AtLeast(row)) => {
                 Ok(row.coefs() == [(0, -1)].as_slice() && row.constant_part() == 0)
             }
             _ => Ok(false),
@@ -30,22 +30,22 @@ fn literals(rt: HostRuntime) -> Result<(), Fail> {
 }
 
 /// What stands below an `exists`.
-fn below_exists(form: &Normal) -> Option<&Normal> {
+fn below_exists(form: &LevelForm) -> Option<&LevelForm> {
     match form {
-        Normal::Exists(inner) => Some(inner.get()),
+        LevelForm::Exists(inner) => Some(inner.get()),
         _ => None,
     }
 }
 
-fn is_three_parts(form: &Normal) -> bool {
+fn is_three_parts(form: &LevelForm) -> bool {
     match form {
-        Normal::And(parts) => parts.len() == 3,
+        LevelForm::And(parts) => parts.len() == 3,
         _ => false,
     }
 }
 
 /// Whether three parts stand below two `exists`.
-fn has_quotient(form: &Normal) -> bool {
+fn has_quotient(form: &LevelForm) -> bool {
     let Some(outer) = below_exists(form) else {
         return false;
     };

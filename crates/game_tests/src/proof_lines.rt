@@ -97,6 +97,6 @@ fn splits(rt: HostRuntime) -> Result<(), Fail> {
     let a = at_least(alloc, &[(0, 2)], -1)?;
     assert!(rt; split(alloc, Sort::Int, 1, &a)?.is_none());
     assert!(rt; split(alloc, Sort::Rat, 1, &a)?.is_some());
-    assert!(rt; rule_of_step(&Step::Split(a)) == Rule::Split);
+    assert!(rt; rule_of_step(&Step::Split(a)) == Rule::Line(Kind::Split));
     Ok(())
 }

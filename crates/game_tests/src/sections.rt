@@ -6,7 +6,7 @@ ghost use Rattle.dom_core.specs.View.{matrix_of};
 ghost use Rattle.strat_check.specs.Example.{second_above_first};
 
 use crate::damaged::with_line;
-use cube_rules::Rule;
+use cube_rules::{Kind, Rule};
 use dom_core::{Matrix, Problem, Quant, Side};
 use dom_rat::Rat;
 use lin_term::{Lit, Memory, Row, Short, Wide};
@@ -28,24 +28,24 @@ const LEAST: &str =
 /// A line of GREATER, what stands in its place, the line that is rejected, and its rule.
 const REJECTED: &[(u64, &str, u64, Rule)] = &[
     // the same number is not greater
-    (7, "m 1 0 1 0", 12, Rule::False),
+    (7, "m 1 0 1 0", 12, Rule::Line(Kind::False)),
     // not in lowest form
     (7, "m 2 2 2 0", 7, Rule::Move),
     // a number that some are not below
-    (7, "m 1 5", 12, Rule::False),
+    (7, "m 1 5", 12, Rule::Line(Kind::False)),
     // no such path
-    (9, "path 1", 9, Rule::Path),
+    (9, "path 1", 9, Rule::Line(Kind::Path)),
     // no such node
-    (10, "def 2 0", 10, Rule::Def),
+    (10, "def 2 0", 10, Rule::Line(Kind::Def)),
     // the other literal, and a sum that does not cancel
-    (10, "def 1 1", 12, Rule::False),
+    (10, "def 1 1", 12, Rule::Line(Kind::False)),
     // multipliers of an inequality are not negative
-    (11, "sum 0 0 1 1 1", 11, Rule::Sum),
-    (11, "sum -1 0 1 1 1", 11, Rule::Sum),
+    (11, "sum 0 0 1 1 1", 11, Rule::Line(Kind::Sum)),
+    (11, "sum -1 0 1 1 1", 11, Rule::Line(Kind::Sum)),
     // another divisor
-    (11, "sum 1 0 1 1 2", 11, Rule::Sum),
+    (11, "sum 1 0 1 1 2", 11, Rule::Line(Kind::Sum)),
     // a literal that is not false
-    (12, "false 1", 12, Rule::False),
+    (12, "false 1", 12, Rule::Line(Kind::False)),
 ];
 
 /// The matrix v1 > v0.

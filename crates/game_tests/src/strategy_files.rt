@@ -8,6 +8,10 @@ use strat_text::*;
 const OPEN_END: &str =
     "simsat-strategy 1\ngoals 1\ngoal 0 sat\nturns to\nt\no 1\nm 1 1 1 0\nproof 4\npath 0\ndef 1 0\nsum 1 0 1 1 1\nfalse 2\nend\n";
 
+/// The same, with a line `learn`.
+const LEARNT: &str =
+    "simsat-strategy 2\ngoals 1\ngoal 0 sat\nturns to\nt\no 1\nm 1 1 1 0\nproof 6\npath 0\ndef 1 0\nlearn >= -1\nsum 1 0 1 1 1\nfalse 3\nfalse 2\nend\n";
+
 /// A node has a move twice, and the file goes wrong again further on.
 const REPEATED: &str =
     "simsat-strategy 1\ngoals 1\ngoal 0 sat\nturns oo\no 3\nm 1 0\no 1\nm 1 0\nm 1 1\no 2\nm 1 0 1 0\nm 1 0 1 0\nm 1 0\nproof x\n";
@@ -21,6 +25,27 @@ const WHOLE: &[&str] = &[
     "simsat-strategy 1\ngoals 1\ngoal 0 unsat\nturns t\nt\nproof 7\npath 0\npart 0 0\npart 0 1\ncube 1 2\nleast 0 2\nfalse 1\nfalse 0\nend\n",
     "simsat-strategy 1\ngoals 2\ngoal 0 unknown\ngoal 1 unsat\nturns oo\no 2\nm 1 0\no 2\nm 2 1 1 0\nm 2 1 -1 0\nm 1 4503599627370496\no 1\nm 1 0\nproof 3\nsplit | 2 -1 1 0 -3 1048575\nfalse 4294967295\nfalse 0\nend\n",
     "simsat-strategy 1\ngoals 0\nend\n",
+    LEARNT,
+    "simsat-strategy 2\ngoals 1\ngoal 0 unsat\nturns -\nproof 3\nlearn | 2 0 1 0 > 1 !| 4503599627370496 -1 2 1048575 >= -4503599627370496 -3 1 1 7\nfalse 0\nfalse 0\nend\n",
+];
+
+/// A line of LEARNT, what stands in its place, and the place of the fault (0, 0 for none).
+const UNLEARNT: &[(u64, &str, (u64, u64))] = &[
+    (1, "simsat-strategy 1", (11, 1)), // version 1 has no such line
+    (1, "simsat-strategy 3", (1, 2)),
+    (1, "simsat-strategy 02", (1, 2)),
+    (1, "simsat-strategy", (1, 2)),
+    (1, "simsat-strategy 2 2", (1, 3)),
+    (11, "learn", (11, 2)), // no literal
+    (11, "learn ", (11, 2)), // an empty one
+    (11, "learn >= -1 > 0", (0, 0)), // two
+    (11, "learn >= -1 ? > 0", (11, 4)), // no mark
+    (11, "learn >= -1 >", (11, 5)), // a literal without its constant
+    (11, "learn >= -1 1 > 0", (11, 5)), // a coefficient without its variable
+    (11, "learn >= 0 1 1 1 0", (11, 7)), // variables that descend
+    (11, "learn >= -1 | 0 1", (11, 5)), // a divisor 0
+    (11, "learn >= -1  > 0", (11, 4)), // two spaces
+    (11, "split >= -1 > 0", (11, 4)), // one literal alone
 ];
 
 /// A line of OPEN_END, what stands in its place, and the place of the fault (0, 0 for none).
@@ -51,7 +76,8 @@ const DAMAGED: &[(u64, &str, (u64, u64))] = &[
     (12, "false 2\r", (12, 2)), // a carriage return
     (12, "", (12, 1)), // an empty line
     (1, "\u{feff}simsat-strategy 1", (1, 1)), // a byte order mark
-    (1, "simsat-strategy 2", (1, 2)), // another version
+    (1, "simsat-strategy 2", (0, 0)), // the other version
+    (1, "simsat-strategy 3", (1, 2)), // a version that is not there
     (2, "goals 4503599627370496", (13, 1)), // the greatest count
     (2, "goals 4503599627370497", (2, 2)), // a count past the cap
     (3, "goal 1 sat", (3, 2)), // the number of another goal
@@ -237,6 +263,10 @@ fn names_the_first_fault(rt: HostRuntime) -> Result<(), Fail> {
         let bytes = with_line(rt.alloc(), OPEN_END, *line, text).map_err(|_| "memory")?;
         assert_eq!(rt; place(&rt, bytes.as_slice()), *want, "line {line}: {text}");
     }
+    for (line, text, want) in UNLEARNT {
+        let bytes = with_line(rt.alloc(), LEARNT, *line, text).map_err(|_| "memory")?;
+        assert_eq!(rt; place(&rt, bytes.as_slice()), *want, "line {line}: {text}");
+    }
     for (line, text, want) in AGAIN {
         let bytes = with_line(rt.alloc(), REPEATED, *line, text).map_err(|_| "memory")?;
         assert_eq!(rt; place(&rt, bytes.as_slice()), *want, "line {line}: {text}");
@@ -340,9 +370,10 @@ fn reads_the_longest_turns(rt: HostRuntime) -> Result<(), Fail> {
 
 #[test]
 fn collects_sections(rt: HostRuntime) -> Result<(), Fail> {
-    let mut sections = Sections::new(rt.alloc());
+    let mut sections = Sections::new(rt.alloc(), 2);
     sections.push(Section::Unknown).map_err(|_| "memory")?;
     assert_eq!(rt; sections.as_slice().len(), 1);
+    assert_eq!(rt; sections.version(), 2);
     one_value();
     one_spelling();
     Ok(())

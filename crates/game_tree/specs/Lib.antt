@@ -1,2 +1,4 @@
 pub mod Skeleton
 pub mod View
+pub mod Written
+pub mod Distinct

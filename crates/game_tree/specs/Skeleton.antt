@@ -1,9 +1,9 @@
 -- Skeletons: trees of moves of one player along a prefix. The player is the one of Exists.
-use Rattle.std.specs.Prelude.{ℕ, suc, ◌+◌, ◌^◌, ◌≤◌, ◌≢◌, Option, Some, None, List, [], ◌∷◌, ◌++◌, map, ⊤}
+use Rattle.std.specs.Prelude.{ℕ, suc, ◌+◌, ◌^◌, ◌≤◌, ◌≢◌, ℤ, pos, Option, Some, None, List, [], ◌∷◌, ◌++◌, map, ⊤}
 use Rattle.lin_term.specs.declared.Sort.{Sort}
-use Rattle.lin_term.specs.Linear.{Below}
+use Rattle.lin_term.specs.Linear.{Below, constant_form}
 use Rattle.lin_term.specs.Move.{Move, IsMove}
-use Rattle.lin_term.specs.Definition.{IsKept}
+use Rattle.lin_term.specs.Definition.{IsKeptMove}
 use Rattle.dom_core.specs.declared.Quant.{Quant}
 use Rattle.dom_core.specs.declared.Quant.TheVariants.{Exists, Forall}
 use Rattle.dom_core.specs.Game.{Problem}
@@ -44,7 +44,7 @@ abbrev mutual
 pub record IsMoveAt (s : Sort) (k : ℕ) (m : Move) : Type 0 where
   pub written : IsMove m
   pub earlier : Below k m.numer
-  pub kept : IsKept s m
+  pub kept : IsKeptMove s m
 
 -- none of the branches has this move
 abbrev pub IsNew : Move → Branches → Type 0
@@ -78,3 +78,13 @@ node_limit = 2 ^ 20
 pub record IsSkeleton (s : Sort) (P : Problem) (S : Skeleton) : Type 0 where
   pub follows : Follows S s P.prefix 0
   pub few : nodes S ≤ node_limit
+
+-- the move that has this value
+abbrev pub constant_move : ℤ → Move
+constant_move c = record { numer = constant_form c; div = 1 }
+
+-- along a prefix, with the move 0 alone at each variable of the owner
+abbrev pub zero_tree : List Quant → Skeleton
+zero_tree [] = end
+zero_tree (Exists ∷ qs) = mine (branch (constant_move (pos 0)) (zero_tree qs) no_more)
+zero_tree (Forall ∷ qs) = theirs (zero_tree qs)

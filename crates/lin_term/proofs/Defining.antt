@@ -7,7 +7,7 @@ use Rattle.lin_term.specs.Form.{Form, AreTerms, cap}
 use Rattle.lin_term.specs.Linear.{Sort, Rat, Int, BelowTerms, put, put_front, plus_terms, times_terms}
 use Rattle.lin_term.specs.Literal.{Lit, AtLeast, gcd, gcd_terms, or_one, divisor, quotient, prim}
 use Rattle.lin_term.specs.Move.{Move, IsMove, move_divisor}
-use Rattle.lin_term.specs.Definition.{upper_form, lower_form, upper_literal, lower_literal, spare_node, move_numbers, IsKept}
+use Rattle.lin_term.specs.Definition.{upper_form, lower_form, upper_literal, lower_literal, spare_node, move_numbers, IsKeptMove}
 use Rattle.lin_term.specs.Upper.{upper_constant}
 use Rattle.lin_term.specs.Wide.{coefficients, first_past, form_numbers, lit_numbers}
 use Rattle.lin_term.proofs.Dividing.{abs_neg}
@@ -178,7 +178,7 @@ upper_size Rat c d h o k = omega (arith, ints)
 upper_size Int c d h o k = omega (arith, ints)
 
 -- a move is kept exactly where its divisor is 1 and that number is within the cap
-pub kept_from : (s : Sort) (m : Move) → IsMove m → move_divisor s m ≡ 1 → upper_constant s m.numer.constant m.div ≤ℤ pos cap → IsKept s m
+pub kept_from : (s : Sort) (m : Move) → IsMove m → move_divisor s m ≡ 1 → upper_constant s m.numer.constant m.div ≤ℤ pos cap → IsKeptMove s m
 kept_from s m a e h =
     record { is_lowest = lowest_by_one s m e; within = numbers_fit s m a e (small (cases_lt cap (nat_abs (upper_constant s m.numer.constant m.div)))) }
   where
@@ -186,10 +186,10 @@ kept_from s m a e h =
     small (inl l) = let g = upper_least s m.numer.constant m.div a.0.1 a.1 l in absurd (omega (arith, ints))
     small (inr l) = l
 
-pub kept_divisor : (s : Sort) (m : Move) → IsMove m → IsKept s m → move_divisor s m ≡ 1
+pub kept_divisor : (s : Sort) (m : Move) → IsMove m → IsKeptMove s m → move_divisor s m ≡ 1
 kept_divisor s m a k = one_by_lowest s m a.1 k.is_lowest
 
-pub kept_upper : (s : Sort) (m : Move) → IsMove m → IsKept s m → nat_abs (upper_constant s m.numer.constant m.div) ≤ cap
+pub kept_upper : (s : Sort) (m : Move) → IsMove m → IsKeptMove s m → nat_abs (upper_constant s m.numer.constant m.div) ≤ cap
 kept_upper s m a k =
     small (cases_lt cap (nat_abs (upper_constant s m.numer.constant m.div)))
   where

@@ -7,7 +7,7 @@ use Rattle.std.proofs.lemmas.Bool.{cases_lt}
 use Rattle.lin_term.specs.Form.{Form, AreTerms, IsRow, cap}
 use Rattle.lin_term.specs.Linear.{Sort}
 use Rattle.lin_term.specs.Move.{Move, IsMove, move_divisor, IsLowest}
-use Rattle.lin_term.specs.Definition.{move_numbers, IsKept}
+use Rattle.lin_term.specs.Definition.{move_numbers, IsKeptMove}
 use Rattle.lin_term.specs.Upper.{upper_constant}
 use Rattle.lin_term.specs.Wide.{first_past}
 use Rattle.lin_term.proofs.Terms.{word_of, wide_of}
@@ -54,11 +54,11 @@ divisor_at s m f ts k d g e h l c n i j =
     j ∙ ap (move_divisor s) (ap₂ move_with (ap₂ with_constant e (word_of k l ∙ c) ∙ h) (ap nat_abs (word_of d n ∙ i)))
 
 -- the test of a move with the divisor 1
-pub kept_where : (s : Sort) (m : Move) (u : ℤ) → IsMove m → move_divisor s m ≡ 1 → u ≡ upper_constant s m.numer.constant m.div → nat_abs u ≤ 2 ^ 53 → to_z w64 (of_z w64 u) ≤ℤ pos cap → IsKept s m
+pub kept_where : (s : Sort) (m : Move) (u : ℤ) → IsMove m → move_divisor s m ≡ 1 → u ≡ upper_constant s m.numer.constant m.div → nat_abs u ≤ 2 ^ 53 → to_z w64 (of_z w64 u) ≤ℤ pos cap → IsKeptMove s m
 kept_where s m u a o e k h =
     let w = of_word u k in kept_from s m a o (let g : upper_constant s m.numer.constant m.div ≤ℤ pos cap = omega (arith, ints, e) in g)
 
-pub where_kept : (s : Sort) (m : Move) (u : ℤ) → IsMove m → u ≡ upper_constant s m.numer.constant m.div → nat_abs u ≤ 2 ^ 53 → IsKept s m → to_z w64 (of_z w64 u) ≤ℤ pos cap
+pub where_kept : (s : Sort) (m : Move) (u : ℤ) → IsMove m → u ≡ upper_constant s m.numer.constant m.div → nat_abs u ≤ 2 ^ 53 → IsKeptMove s m → to_z w64 (of_z w64 u) ≤ℤ pos cap
 where_kept s m u a e k h =
     let w = of_word u k in let b = kept_upper s m a h in let c : nat_abs u ≤ cap = subst (λ (z : ℤ). nat_abs z ≤ cap) (sym e) b in omega (arith, ints)
 

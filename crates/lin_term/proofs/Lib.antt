@@ -21,7 +21,12 @@ pub mod PuttingLemmas
 pub mod Lowering
 pub mod Defining
 pub mod KeptMoves
-pub mod Renamed
+pub mod AtNames
 pub mod Contraries
 pub mod Fixed
 pub mod Replacing
+pub mod Comparing
+pub mod Fractions
+pub mod WideMoves
+pub mod Points
+pub mod Orders

@@ -47,6 +47,6 @@ move_numbers s m =
     pos m.div ∷ (form_numbers m.numer ++ (lit_numbers (upper_literal s m spare_node) ++ lit_numbers (lower_literal s m spare_node)))
 
 -- in lowest form, and it and its definition are within the cap
-pub record IsKept (s : Sort) (m : Move) : Type 0 where
+pub record IsKeptMove (s : Sort) (m : Move) : Type 0 where
   pub is_lowest : IsLowest s m
   pub within : first_past (move_numbers s m) ≡ None

@@ -16,3 +16,8 @@ pub mod Rising
 pub mod Upper
 pub mod Fixing
 pub mod Replaced
+pub mod Same
+pub mod Fraction
+pub mod WideMove
+pub mod Point
+pub mod Order

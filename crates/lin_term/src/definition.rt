@@ -1,16 +1,17 @@
 //! The two literals that fix a move's value at a node.
 
-ghost use Rattle.std.specs.Prelude.{◌≡◌, ◌≢◌, ◌<◌, ◌≤◌, ◌^◌, ◌++◌, [], ◌∷◌, pos, ◌-ℤ◌, nat_abs, IfOk, length};
+ghost use Rattle.std.specs.Prelude.{◌≡◌, ◌≢◌, ◌<◌, ◌≤◌, ◌^◌, ◌++◌, [], ◌∷◌, pos, ◌-ℤ◌, nat_abs, IfOk};
 ghost use Rattle.lin_term.specs.Form.{cap};
-ghost use Rattle.lin_term.specs.Linear.{Below, BelowTerms, rename};
+ghost use Rattle.lin_term.specs.Linear.{Below, BelowTerms};
 ghost use Rattle.lin_term.specs.Definition.{rename_move, upper_literal, lower_literal};
-ghost use Rattle.lin_term.specs.Rising.{IsRising, IsDefinable};
+ghost use Rattle.lin_term.specs.Rising.{IsDefinable};
 
 use crate::fault::Memory;
 use crate::lit::Lit;
 use crate::moves::{Move, definition_constant};
 use crate::primitive_form::negated;
-use crate::row::{Coefs, Row, Sort};
+use crate::renaming::renamed_row;
+use crate::row::{Row, Sort};
 use std::alloc::Global;
 
 /// The definition of a move at a node: the node is at least the move's value, and at most it.
@@ -54,23 +55,6 @@ fn minus(z: i64) -> i64
     ensures size { nat_abs result ≤ cap }
 {
     -z
-}
-
-/// The row with `names[i]` for variable i. The names ascend and are below 2^20, and the row's variables are below their
-/// count. It refuses only for memory.
-pub fn renamed_row(alloc: Global, row: &Row, names: &[u32]) -> Result<Row, Memory>
-    requires rising { IsRising names.now (2 ^ 20) }
-    requires below { Below (length names.now) row.now }
-    ensures { IfOk result (λ r. r ≡ rename names.now row.now) }
-{
-    let mut coefs = Coefs::with_capacity(alloc, row.coefs().len())?;
-    for (var, coef) in row.coefs() {
-        match coefs.push((names[*var as usize], *coef)) {
-            Ok(()) => {}
-            Err(_) => return Err(Memory),
-        }
-    }
-    Ok(Row::from_parts(coefs, row.constant_part()))
 }
 
 /// The row's coefficients with one more behind them, and this constant.

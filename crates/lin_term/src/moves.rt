@@ -1,16 +1,19 @@
 //! Moves: a linear form over a divisor.
 
-ghost use Rattle.std.specs.Prelude.{◌≡◌, ◌≤◌, ◌^◌, ℤ, pos, nat_abs, ◌≤ℤ◌, IfOk, IsTrue, ◌↔◌, ◌/◌};
+ghost use Rattle.std.specs.Prelude.{◌≡◌, ◌≤◌, ◌^◌, ℤ, pos, nat_abs, ◌≤ℤ◌, IfOk, IsTrue, ◌↔◌, ◌/◌, length};
 ghost use Rattle.lin_term.specs.Form.{Form, AreTerms, cap};
+ghost use Rattle.lin_term.specs.Linear.{Below};
 ghost use Rattle.lin_term.specs.Literal.{quotient, quotient_terms};
 ghost use Rattle.lin_term.specs.Move.{IsMove, move_divisor, lowest, IsLowest};
-ghost use Rattle.lin_term.specs.Definition.{move_numbers, IsKept};
+ghost use Rattle.lin_term.specs.Definition.{move_numbers, rename_move, IsKeptMove};
+ghost use Rattle.lin_term.specs.Rising.{IsRisingAt};
 ghost use Rattle.lin_term.specs.Upper.{upper_constant as upper_constant_of};
 ghost use Rattle.lin_term.specs.Wide.{CappedWide};
 
 use crate::fault::{Memory, Wide};
 use crate::numbers::{common_divisor, floor_of_words, gcd_of_words};
 use crate::primitive_form::divide_all;
+use crate::renaming::renamed_row;
 use crate::row::{CAP, Coefs, Row, Sort};
 use std::alloc::Global;
 use std::marker::Model;
@@ -48,7 +51,7 @@ impl Move {
 
     /// Whether the move is in lowest form, and its numbers and those of its definition literals are within the cap.
     pub fn is_kept(&self, sort: Sort) -> bool
-        ensures { IsTrue result ↔ IsKept sort self.now }
+        ensures { IsTrue result ↔ IsKeptMove sort self.now }
     {
         let row = self.row();
         let g = divisor_of(sort, row.coefs(), row.constant_part(), self.div());
@@ -86,6 +89,16 @@ impl Move {
         ensures { IfOk result (λ m. m ≡ self.now) }
     {
         let row = self.row.copy(alloc)?;
+        Ok(Move { row, div: self.div })
+    }
+
+    /// The move with `names[i]` for variable i, with names as for `renamed_row`. It refuses only for memory.
+    pub fn renamed(&self, alloc: Global, names: &[u32]) -> Result<Move, Memory>
+        requires rising { IsRisingAt names.now self.now.numer.terms (2 ^ 20) }
+        requires below { Below (length names.now) self.now.numer }
+        ensures { IfOk result (λ m. m ≡ rename_move names.now self.now) }
+    {
+        let row = renamed_row(alloc, &self.row, names)?;
         Ok(Move { row, div: self.div })
     }
 }
@@ -164,7 +177,7 @@ fn is_one_and_within(g: u64, number: i64) -> bool
 
 /// The move, which is in lowest form, where its definition is within the cap. Of the definition's numbers only the
 /// constant of literal 0 can be past it, and only above.
-fn with_definition(sort: Sort, term: Move) -> Result<Move, Wide>
+pub(crate) fn with_definition(sort: Sort, term: Move) -> Result<Move, Wide>
     requires { IsLowest sort term }
     ensures { CappedWide (move_numbers sort term) term result }
 {

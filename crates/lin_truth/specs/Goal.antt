@@ -2,7 +2,7 @@
 use Rattle.std.specs.Prelude.{ℕ, ◌≡◌, ◌≤◌, nat_abs, List, [], ⊤}
 use Rattle.lin_term.specs.Form.{cap}
 use Rattle.lin_term.specs.declared.Sort.{Sort}
-use Rattle.lin_term.specs.Literal.{gcd}
+use Rattle.lin_term.specs.Fraction.{IsFraction}
 use Rattle.lin_truth.specs.declared.term.VarSort.{VarSort}
 use Rattle.lin_truth.specs.declared.term.Term.{Term as Written}
 use Rattle.lin_truth.specs.Term.{Term, Terms, yes, no, amount, variable, negative, absolute, negated, divisible, minus, quotient_of, div_of, mod_of, less, at_most, greater, at_least, equal, xor_of, implies, ite, plus_of, times_of, and_of, or_of, forall_of, exists_of, no_term, term_and}
@@ -12,41 +12,41 @@ use Rattle.lin_truth.specs.View.{tree_of}
 
 -- its numbers are within the cap, and the fractions in lowest terms
 abbrev mutual
-  pub IsKept : Term → Type 0
-  IsKept yes = ⊤
-  IsKept no = ⊤
-  IsKept (amount v) = (nat_abs v.num ≤ cap) × (1 ≤ v.den) × (v.den ≤ cap) × (gcd v.den (nat_abs v.num) ≡ 1)
-  IsKept (variable i) = ⊤
-  IsKept (negative t) = IsKept t
-  IsKept (absolute t) = IsKept t
-  IsKept (negated t) = IsKept t
-  IsKept (divisible n t) = (n ≤ cap) × IsKept t
-  IsKept (minus a b) = IsKept a × IsKept b
-  IsKept (quotient_of a b) = IsKept a × IsKept b
-  IsKept (div_of a b) = IsKept a × IsKept b
-  IsKept (mod_of a b) = IsKept a × IsKept b
-  IsKept (less a b) = IsKept a × IsKept b
-  IsKept (at_most a b) = IsKept a × IsKept b
-  IsKept (greater a b) = IsKept a × IsKept b
-  IsKept (at_least a b) = IsKept a × IsKept b
-  IsKept (equal a b) = IsKept a × IsKept b
-  IsKept (xor_of a b) = IsKept a × IsKept b
-  IsKept (implies a b) = IsKept a × IsKept b
-  IsKept (ite c a b) = IsKept c × IsKept a × IsKept b
-  IsKept (plus_of ts) = AreKept ts
-  IsKept (times_of ts) = AreKept ts
-  IsKept (and_of ts) = AreKept ts
-  IsKept (or_of ts) = AreKept ts
-  IsKept (forall_of vs t) = IsKept t
-  IsKept (exists_of vs t) = IsKept t
+  pub IsGoalTerm : Term → Type 0
+  IsGoalTerm yes = ⊤
+  IsGoalTerm no = ⊤
+  IsGoalTerm (amount v) = IsFraction v
+  IsGoalTerm (variable i) = ⊤
+  IsGoalTerm (negative t) = IsGoalTerm t
+  IsGoalTerm (absolute t) = IsGoalTerm t
+  IsGoalTerm (negated t) = IsGoalTerm t
+  IsGoalTerm (divisible n t) = (n ≤ cap) × IsGoalTerm t
+  IsGoalTerm (minus a b) = IsGoalTerm a × IsGoalTerm b
+  IsGoalTerm (quotient_of a b) = IsGoalTerm a × IsGoalTerm b
+  IsGoalTerm (div_of a b) = IsGoalTerm a × IsGoalTerm b
+  IsGoalTerm (mod_of a b) = IsGoalTerm a × IsGoalTerm b
+  IsGoalTerm (less a b) = IsGoalTerm a × IsGoalTerm b
+  IsGoalTerm (at_most a b) = IsGoalTerm a × IsGoalTerm b
+  IsGoalTerm (greater a b) = IsGoalTerm a × IsGoalTerm b
+  IsGoalTerm (at_least a b) = IsGoalTerm a × IsGoalTerm b
+  IsGoalTerm (equal a b) = IsGoalTerm a × IsGoalTerm b
+  IsGoalTerm (xor_of a b) = IsGoalTerm a × IsGoalTerm b
+  IsGoalTerm (implies a b) = IsGoalTerm a × IsGoalTerm b
+  IsGoalTerm (ite c a b) = IsGoalTerm c × IsGoalTerm a × IsGoalTerm b
+  IsGoalTerm (plus_of ts) = AreGoalTerms ts
+  IsGoalTerm (times_of ts) = AreGoalTerms ts
+  IsGoalTerm (and_of ts) = AreGoalTerms ts
+  IsGoalTerm (or_of ts) = AreGoalTerms ts
+  IsGoalTerm (forall_of vs t) = IsGoalTerm t
+  IsGoalTerm (exists_of vs t) = IsGoalTerm t
 
-  pub AreKept : Terms → Type 0
-  AreKept no_term = ⊤
-  AreKept (term_and t ts) = IsKept t × AreKept ts
+  pub AreGoalTerms : Terms → Type 0
+  AreGoalTerms no_term = ⊤
+  AreGoalTerms (term_and t ts) = IsGoalTerm t × AreGoalTerms ts
 
 -- a formula over the constants, with numbers that are kept
 abbrev pub IsBody : Sort → List VarSort → Term → Type 0
-IsBody s consts body = IsFormula body s (append_all [] consts) × IsKept body
+IsBody s consts body = IsFormula body s (append_all [] consts) × IsGoalTerm body
 
 -- there are values for the constants that make the body true
 abbrev pub TrueGoal : Sort → List VarSort → Term → Type 0

@@ -1,30 +1,10 @@
 -- Rational and whole values: sums, products, division and order.
 use Rattle.std.specs.Prelude.{ℕ, zero, suc, ◌*◌, ◌≡◌, ℤ, pos, negsuc, ◌+ℤ◌, ◌*ℤ◌, neg_ℤ, nat_abs, ◌≤ℤ◌, ◌<ℤ◌, ⊤, Bool, true, false}
 use Rattle.lin_term.specs.Linear.{Value, floor_div}
-
-abbrev pub v_plus : Value → Value → Value
-v_plus x y = record { num = x.num *ℤ pos y.den +ℤ y.num *ℤ pos x.den; den = x.den * y.den }
-
-abbrev pub v_neg : Value → Value
-v_neg x = record { num = neg_ℤ x.num; den = x.den }
-
-abbrev pub v_minus : Value → Value → Value
-v_minus x y = v_plus x (v_neg y)
-
-abbrev pub v_times : Value → Value → Value
-v_times x y = record { num = x.num *ℤ y.num; den = x.den * y.den }
+pub use Rattle.lin_term.specs.Fraction.{v_plus, v_neg, v_minus, v_times, over_num, v_over}
 
 abbrev pub v_abs : Value → Value
 v_abs x = record { num = pos (nat_abs x.num); den = x.den }
-
--- x / (m / e); a divisor is never 0
-abbrev pub over_num : Value → ℤ → ℕ → Value
-over_num x (pos zero) e = x
-over_num x (pos (suc m)) e = record { num = x.num *ℤ pos e; den = x.den * suc m }
-over_num x (negsuc m) e = record { num = neg_ℤ (x.num *ℤ pos e); den = x.den * suc m }
-
-abbrev pub v_over : Value → Value → Value
-v_over x y = over_num x y.num y.den
 
 -- the q with m = n*q + r and 0 <= r < |n|
 abbrev pub whole_div : ℤ → ℤ → ℤ

@@ -1,19 +1,20 @@
 -- Constant terms worked out within the cap: from left to right, two arguments at a time, each step in lowest terms.
-use Rattle.std.specs.Prelude.{◌/◌, nat_abs, nat_le, Bool, ◌&&◌, if◌then◌else◌, Option, Some, None, option_and_then}
+use Rattle.std.specs.Prelude.{nat_abs, nat_le, Bool, ◌&&◌, if◌then◌else◌, Option, Some, None, option_and_then}
 use Rattle.lin_term.specs.Form.{cap}
-use Rattle.lin_term.specs.Linear.{Value, floor_div}
-use Rattle.lin_term.specs.Literal.{gcd, or_one}
+use Rattle.lin_term.specs.Linear.{Value}
+use Rattle.lin_term.specs.Fraction.{lowest_value}
 use Rattle.lin_truth.specs.Value.{zero_value, one_value, v_neg, v_abs, v_plus, v_minus, v_times, v_over, v_div, v_mod}
 use Rattle.lin_truth.specs.Term.{Term, Terms, amount, negative, absolute, minus, quotient_of, div_of, mod_of, plus_of, times_of, no_term, term_and}
 
 -- numerator and denominator without a common divisor
 abbrev pub lowest : Value → Value
-lowest v = record { num = floor_div v.num (or_one (gcd v.den (nat_abs v.num))); den = v.den / or_one (gcd v.den (nat_abs v.num)) }
+lowest = lowest_value
 
+-- both numbers, and the denominator is not 0
 abbrev pub is_within : Value → Bool
-is_within v = nat_le (nat_abs v.num) cap && nat_le v.den cap
+is_within v = nat_le (nat_abs v.num) cap && (nat_le v.den cap && nat_le 1 v.den)
 
--- the value in lowest terms, if it is within the cap
+-- the value in lowest terms, if it is within the cap; none where the denominator is 0
 abbrev pub kept : Value → Option Value
 kept v = if is_within (lowest v) then Some (lowest v) else None
 

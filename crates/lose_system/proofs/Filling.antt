@@ -1,26 +1,12 @@
 -- Filling the table: one more branch.
-use Rattle.std.specs.Prelude.{ℕ, zero, suc, ◌+◌, ◌<◌, ◌≤◌, ◌≡◌, Some, List, [], ◌∷◌, ◌++◌, drop, get_or, length}
+use Rattle.std.specs.Prelude.{ℕ, suc, ◌+◌, ◌≤◌, ◌≡◌, Some, List, [], ◌∷◌, ◌++◌, length}
 use Rattle.std.proofs.Common.{arith, ap, ap₂, ◌∙◌, sym, refl, append_assoc, append-nil, length-append}
-use Rattle.std.proofs.lemmas.List.{length-map, at_drop_more, at_drop_all, map-append}
+use Rattle.std.proofs.lemmas.List.{length-map, map-append}
 use Rattle.lin_term.specs.Move.{Move}
-use Rattle.game_tree.specs.declared.Branch.{Branch, fold_out-Branch}
 use Rattle.game_tree.specs.Skeleton.{Skeleton, end, theirs, mine, Branches, no_more, branch, nodes, branch_nodes}
-use Rattle.game_tree.specs.View.{skeleton_of, branches_of, branch_of, tree_step, branch_step}
 use Rattle.lose_system.specs.Place.{Place}
 use Rattle.lose_system.specs.declared.table.Node.{Node}
 use Rattle.lose_system.specs.Table.{place_of, places_of, at_place, places, branch_places, leaves, branch_leaves}
-
-pub branch_is : (b : Branch) → branch_of b ≡ (b.term, skeleton_of b.rest)
-branch_is b = fold_out-Branch Skeleton (Move × Skeleton) tree_step branch_step b
-
--- the first of the branches that are left
-pub branches_at : (bs : List Branch) (i : ℕ) (b : Branch) → i < length bs → b ≡ get_or bs i b → branches_of (drop i bs) ≡ branch b.term (skeleton_of b.rest) (branches_of (drop (i + 1) bs))
-branches_at bs i b l e =
-    at_drop_more branches_of bs i b l ∙ ap (λ (x : Branch). branch (branch_of x).0 (branch_of x).1 (branches_of (drop (i + 1) bs))) (sym e)
-    ∙ ap (λ (x : Move × Skeleton). branch x.0 x.1 (branches_of (drop (i + 1) bs))) (branch_is b)
-
-pub branches_done : (bs : List Branch) (i : ℕ) → length bs ≤ i → branches_of (drop i bs) ≡ no_more
-branches_done bs i h = at_drop_all branches_of bs i h
 
 mutual
   pub length-places : (S : Skeleton) (d a v : ℕ) → length (places S d a v) ≡ nodes S
@@ -48,12 +34,6 @@ filled_first list ends all d a f g = record { nodes_so_far = refl; ends_so_far =
 
 pub length_pushed : {A : Type 0} (xs ys : List A) (x : A) → ys ≡ xs ++ x ∷ [] → length ys ≡ length xs + 1
 length_pushed xs ys x e = ap length e ∙ length-append xs (x ∷ [])
-
-pub fewer_left : (bs : List Branch) (i : ℕ) → branch_nodes (branches_of (drop i bs)) ≤ branch_nodes (branches_of bs)
-fewer_left [] zero = omega arith
-fewer_left [] (suc i) = omega arith
-fewer_left (b ∷ bs) zero = omega arith
-fewer_left (b ∷ bs) (suc i) = let h = fewer_left bs i in omega arith
 
 length_after : (list pushed new : List Node) (n : Node) (t : Skeleton) (d v : ℕ) → pushed ≡ list ++ n ∷ [] → places_of new ≡ places_of pushed ++ places t d v (length pushed) → length new ≡ suc (length list) + nodes t
 length_after list pushed new n t d v e h =

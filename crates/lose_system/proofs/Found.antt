@@ -100,11 +100,11 @@ definition_at-append (d ∷ ds) es w = by (nat_eq d.node w) (definition_at-appen
     by true h = refl
     by false h = h
 
-first_only : (ds es : List Definition) (w : ℕ) → definition_at es w ≡ None → definition_at (ds ++ es) w ≡ definition_at ds w
+pub first_only : (ds es : List Definition) (w : ℕ) → definition_at es w ≡ None → definition_at (ds ++ es) w ≡ definition_at ds w
 first_only ds es w e =
     definition_at-append ds es w ∙ ap (or_else (definition_at ds w)) e ∙ or_none (definition_at ds w)
 
-second_only : (ds es : List Definition) (w : ℕ) → definition_at ds w ≡ None → definition_at (ds ++ es) w ≡ definition_at es w
+pub second_only : (ds es : List Definition) (w : ℕ) → definition_at ds w ≡ None → definition_at (ds ++ es) w ≡ definition_at es w
 second_only ds es w e =
     definition_at-append ds es w ∙ ap (λ (o : Option Definition). or_else o (definition_at es w)) e
 
@@ -115,11 +115,11 @@ differ a b n = by (nat_eq a b) refl
     by false e = refl
     by true e = absurd (n (eqb-true a b e))
 
-other_node : (d : Definition) (ds : List Definition) (w : ℕ) → d.node ≢ w → definition_at (d ∷ ds) w ≡ definition_at ds w
+pub other_node : (d : Definition) (ds : List Definition) (w : ℕ) → d.node ≢ w → definition_at (d ∷ ds) w ≡ definition_at ds w
 other_node d ds w n =
     ap (λ (b : Bool). cond b (Some d) (definition_at ds w)) (differ d.node w n)
 
-same_node : (d : Definition) (ds : List Definition) (w : ℕ) → d.node ≡ w → definition_at (d ∷ ds) w ≡ Some d
+pub same_node : (d : Definition) (ds : List Definition) (w : ℕ) → d.node ≡ w → definition_at (d ∷ ds) w ≡ Some d
 same_node d ds w e =
     ap (λ (b : Bool). cond b (Some d) (definition_at ds w)) (eq-eqb d.node w e)
 

@@ -5,3 +5,5 @@ pub mod Found
 pub mod Rise
 pub mod Seen
 pub mod Tabled
+pub mod LostLemmas
+pub mod SolvedLemmas

@@ -12,7 +12,7 @@ use Rattle.lose_system.specs.Losing.{routes, branch_routes}
 use Rattle.lose_system.specs.Place.{Place}
 use Rattle.lose_system.specs.Table.{at_place, places, branch_places, above_at, route}
 use Rattle.lin_term.specs.Rising.{IsRising}
-use Rattle.lin_term.proofs.Renamed.{rising_more}
+use Rattle.lin_term.proofs.AtNames.{rising_more}
 use Rattle.lose_system.proofs.Filling.{length-places}
 use Rattle.lose_system.proofs.Found.{get_at, shift_one, shift_more, length_one, length_branch, route_push}
 

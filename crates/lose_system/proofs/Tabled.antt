@@ -1,13 +1,17 @@
 -- What the type of a losing system keeps, read at its nodes and paths.
 use Rattle.std.specs.Prelude.{ℕ, zero, suc, ◌+◌, ◌^◌, ◌<◌, ◌≤◌, ◌≡◌, Option, Some, None, option_map, option_and_then, slice_get, Result, Ok, Err, IfOk, IfSome, List, [], ◌∷◌, map, length}
-use Rattle.std.proofs.Common.{arith, ap, ap₂, ◌∙◌, sym, subst, refl, length-append, Bor}
+use Rattle.std.proofs.Common.{arith, ap, ap₂, ◌∙◌, sym, subst, length-append, Bor}
 use Rattle.std.proofs.lemmas.List.{length-map}
 use Rattle.lin_term.specs.declared.Sort.{Sort}
 use Rattle.lin_term.specs.declared.Lit.{Lit}
 use Rattle.lin_term.specs.Linear.{Below}
 use Rattle.lin_term.specs.Move.{Move}
 use Rattle.lin_term.specs.Definition.{definition}
-use Rattle.game_tree.specs.Skeleton.{Skeleton, end, theirs, mine, Branches, no_more, branch, nodes, branch_nodes}
+use Rattle.dom_core.specs.declared.Quant.{Quant}
+use Rattle.dom_core.specs.Problem.{WrittenProblem, IsProblem, problem_of}
+use Rattle.game_tree.specs.declared.Tree.{Tree}
+use Rattle.game_tree.specs.Skeleton.{Skeleton, end, theirs, mine, Branches, no_more, branch, nodes, branch_nodes, node_limit, Follows, IsSkeleton}
+use Rattle.game_tree.specs.Written.{WrittenSkeleton, FollowsPrefix}
 use Rattle.game_tree.specs.View.{skeleton_of}
 use Rattle.lose_system.specs.Losing.{routes, literal_number}
 use Rattle.lose_system.specs.Written.{WrittenSystem, definition_literal}
@@ -16,12 +20,13 @@ use Rattle.lose_system.specs.declared.table.Node.{Node}
 use Rattle.lose_system.specs.Table.{place_of, places_of, places, leaves, branch_leaves, route, definition_of, definition_in}
 use Rattle.lose_system.specs.Kept.{IsTable}
 use Rattle.lin_term.specs.Rising.{IsRising, IsDefinable}
-use Rattle.lin_term.proofs.Renamed.{rising_more}
+use Rattle.lin_term.proofs.AtNames.{rising_more}
 use Rattle.lose_system.specs.Rising.{IsWay}
 use Rattle.lose_system.proofs.Filling.{length-places}
 use Rattle.lose_system.proofs.Found.{all_routes, all_definitions}
 use Rattle.lose_system.proofs.Rise.{length-route, all_places_kept, rising_none, route_at, routes_rise}
 use Rattle.lose_system.proofs.Seen.{place_at}
+use Rattle.lose_system.proofs.LostLemmas.{map_at}
 
 mutual
   length-leaves : (S : Skeleton) (a v : ℕ) → length (leaves S a v) ≤ 1 + nodes S
@@ -59,11 +64,6 @@ few_paths s w list last t =
     let e = ap length t.ends in
     let h = length-leaves (skeleton_of w.tree) 0 0 in
     omega arith
-
-map_at : {A B : Type 0} (g : A → B) (xs : List A) (i : ℕ) → slice_get (map g xs) i ≡ option_map g (slice_get xs i)
-map_at g [] i = refl
-map_at g (x ∷ xs) zero = refl
-map_at g (x ∷ xs) (suc i) = map_at g xs i
 
 pub path_is : (s : Sort) (w : WrittenSystem) (list : List Node) (last : List ℕ) → IsTable s w list last → (k : ℕ) → slice_get (routes (skeleton_of w.tree) [] 0) k ≡ option_map (route (length w.problem.prefix) (places_of list)) (slice_get last k)
 path_is s w list last t k =
@@ -122,6 +122,26 @@ is_way s w list last t k names e =
     let l = r.long in
     record { long = omega arith; rising = rising_more names (0 + nodes (skeleton_of w.tree)) (2 ^ 20) (omega arith) r.rising }
 
+-- each name of a path is a node
+pub rises_way : (s : Sort) (w : WrittenSystem) (list : List Node) (last : List ℕ) → IsTable s w list last → (k : ℕ) (names : List ℕ) → Some names ≡ slice_get (routes (skeleton_of w.tree) [] 0) k → IsRising names (nodes (skeleton_of w.tree))
+rises_way s w list last t k names e =
+    let r = route_at (0 + length w.problem.prefix) (0 + nodes (skeleton_of w.tree)) (routes (skeleton_of w.tree) [] 0) k names (routes_rise (skeleton_of w.tree) s w.problem.prefix 0 [] 0 t.skeleton.follows (rising_none 0)) (sym e) in
+    rising_more names (0 + nodes (skeleton_of w.tree)) (nodes (skeleton_of w.tree)) (omega arith) r.rising
+
 pub kept_way : (s : Sort) (w : WrittenSystem) (list : List Node) (last : List ℕ) → IsTable s w list last → (k : ℕ) (o : Option (List ℕ)) → o ≡ slice_get (routes (skeleton_of w.tree) [] 0) k → IfSome o (λ names. IsWay (length w.problem.prefix) names)
 kept_way s w list last t k None e = tt
 kept_way s w list last t k (Some names) e = is_way s w list last t k names (sym e)
+
+-- ---- the skeleton of a system
+
+-- a skeleton over the problem's prefix, within the limit, is one of the problem
+pub is_skeleton : (s : Sort) (P : WrittenProblem) (S : WrittenSkeleton) → FollowsPrefix s S → S.prefix ≡ P.prefix → nodes (skeleton_of S.tree) ≤ node_limit → IsSkeleton s (problem_of P) (skeleton_of S.tree)
+is_skeleton s P S f e few = record { follows = subst (λ (qs : List Quant). Follows (skeleton_of S.tree) s qs 0) e f.follows; few = few }
+
+-- and the other way round
+pub follows_prefix : (s : Sort) (P : WrittenProblem) (qs : List Quant) (t : Tree) → qs ≡ P.prefix → IsProblem s P → IsSkeleton s (problem_of P) (skeleton_of t) → FollowsPrefix s (record { prefix = qs; tree = t })
+follows_prefix s P qs t e p f = record {
+  short = subst (λ (xs : List Quant). length xs ≤ 1024) (sym e) p.0;
+  follows = subst (λ (xs : List Quant). Follows (skeleton_of t) s xs 0) (sym e) f.follows;
+  countable = let few = f.few in omega arith;
+}

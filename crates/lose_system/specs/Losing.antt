@@ -1,5 +1,5 @@
 -- Losing systems: one variable for each node of a skeleton, numbered in preorder.
-use Rattle.std.specs.Prelude.{ℕ, zero, suc, ◌+◌, ◌≡◌, nat_eq, if◌then◌else◌, Option, Some, None, List, [], ◌∷◌, ◌++◌, map, length, ⊤}
+use Rattle.std.specs.Prelude.{ℕ, zero, suc, ◌+◌, ◌≡◌, nat_eq, if◌then◌else◌, Option, Some, None, IfSome, List, [], ◌∷◌, ◌++◌, map, length, ⊤}
 use Rattle.lin_term.specs.declared.Sort.{Sort}
 use Rattle.lin_term.specs.declared.Lit.{Lit}
 use Rattle.lin_term.specs.Linear.{Point, IsPoint}
@@ -59,6 +59,14 @@ definition_at (d ∷ ds) v = if nat_eq d.node v then Some d else definition_at d
 abbrev pub AllDefined : List Definition → Point → Type 0
 AllDefined [] p = ⊤
 AllDefined (d ∷ ds) p = Holds d.upper p × Holds d.lower p × AllDefined ds p
+
+-- both literals hold
+abbrev pub BothHold : Point → Definition → Type 0
+BothHold p d = Holds d.upper p × Holds d.lower p
+
+-- the definition of node v, where it is a move, holds
+abbrev pub HoldsAt : List Definition → Point → ℕ → Type 0
+HoldsAt ds p v = IfSome (definition_at ds v) (BothHold p)
 
 abbrev pub AllLose : List Matrix → Point → Type 0
 AllLose [] p = ⊤

@@ -2,9 +2,11 @@
 #![tactic(auto)]
 
 mod literal;
+mod lost;
 mod route;
+mod solved;
 mod system;
 mod table;
 
-pub use literal::{negated, renamed};
+pub use literal::negated;
 pub use system::System;

@@ -9,23 +9,8 @@ ghost use Rattle.lin_term.specs.Definition.{definition as definition_of};
 ghost use Rattle.lose_system.specs.Losing.{literal_number};
 
 use dom_core::Domain;
-use lin_term::{Defined, Lit, Memory, Move, Short, Sort, negate, renamed_row};
+use lin_term::{Defined, Lit, Memory, Move, Short, Sort, negate, renamed};
 use std::alloc::Global;
-
-/// The literal with `names[i]` for variable i. The names ascend and are below 2^20, and the literal's variables are
-/// below their count. It refuses only for memory.
-pub fn renamed(alloc: Global, lit: &Lit, names: &[u32]) -> Result<Lit, Memory>
-    requires rising { IsRising names.now (2 ^ 20) }
-    requires below { Below (length names.now) (form_of lit.now) }
-    ensures { IfOk result (λ l. l ≡ rename_lit names.now lit.now) }
-{
-    match lit {
-        Lit::AtLeast(row) => Ok(Lit::AtLeast(renamed_row(alloc, row, names)?)),
-        Lit::Above(row) => Ok(Lit::Above(renamed_row(alloc, row, names)?)),
-        Lit::Divides(d, row) => Ok(Lit::Divides(*d, renamed_row(alloc, row, names)?)),
-        Lit::NotDivides(d, row) => Ok(Lit::NotDivides(*d, renamed_row(alloc, row, names)?)),
-    }
-}
 
 /// The negation of a primitive literal, in primitive form, with `names[i]` for variable i. The negation is within the
 /// cap; the names ascend and are below 2^20, and the literal's variables are below their count. It refuses only for

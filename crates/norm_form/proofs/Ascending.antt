@@ -3,6 +3,7 @@ use Rattle.std.specs.Prelude.{ℕ, zero, suc, ◌+◌, ◌<◌, ◌≤◌, ◌^�
 use Rattle.std.proofs.Common.{arith}
 use Rattle.lin_term.specs.Form.{Form, AreTerms, IsRow}
 use Rattle.lin_term.specs.Linear.{BelowTerms, Below, rename, rename_terms}
+use Rattle.lin_term.specs.Rising.{IsRising}
 
 -- each is at least n, and more than the one before it
 abbrev pub Ascends : ℕ → List ℕ → Type 0
@@ -48,6 +49,12 @@ below_get : (n : ℕ) (is : List ℕ) (i : ℕ) → AllBelow n is → i < length
 below_get n [] i b h = absurd (omega arith)
 below_get n (j ∷ is) zero b h = b.0
 below_get n (j ∷ is) (suc i) b h = below_get n is i b.1 (omega arith)
+
+pub rising : (names : List ℕ) (n : ℕ) → Ascends 0 names → AllBelow n names → IsRising names n
+rising names n a b = record {
+  ascend = λ i j h l. ascends_two 0 names i j a h l;
+  below = λ i l. below_get n names i b l;
+}
 
 rows_from : (names : List ℕ) (ts : List (ℕ × ℤ)) (n lo : ℕ) → Ascends 0 names → AllBelow (2 ^ 20) names → BelowTerms (length names) ts → AreTerms n ts → ((i : ℕ) → n ≤ i → i < length names → lo ≤ get_or names i 0) → AreTerms lo (rename_terms names ts)
 rows_from names [] n lo a c b h f = tt

@@ -14,7 +14,7 @@ use Rattle.norm_form.specs.declared.literal.Signs.{Signs}
 use Rattle.norm_form.specs.declared.branches.Case.{Case}
 use Rattle.norm_form.specs.declared.branches.Case.TheVariants as cases
 use Rattle.norm_form.specs.declared.change.Change.TheVariants as changes
-use Rattle.norm_form.specs.declared.normal.Normal.{Normal as Built}
+use Rattle.norm_form.specs.declared.normal.LevelForm.{LevelForm as Built}
 use Rattle.norm_form.specs.Bounds.{AreBounds}
 use Rattle.norm_form.specs.Cap.{capped_maker, keep_if, over, over2, over4, atom_numbers, div_numbers}
 use Rattle.norm_form.specs.Cases.{between, changed, chosen, run_back, AreBack}

@@ -12,7 +12,7 @@ use Rattle.lin_form.specs.Kept.{within}
 use Rattle.lin_form.proofs.Keeping.{within_append}
 use Rattle.norm_form.specs.declared.branches.Case.{Case}
 use Rattle.norm_form.specs.declared.literal.Signs.{Signs}
-use Rattle.norm_form.specs.declared.normal.Normal.{Normal as Built}
+use Rattle.norm_form.specs.declared.normal.LevelForm.{LevelForm as Built}
 use Rattle.norm_form.specs.Cap.{capped_maker, keep, over2, over4, atom_numbers}
 use Rattle.norm_form.specs.Cases.{chosen, bounded, between, put, run, HasNone, AreCases}
 use Rattle.norm_form.specs.Claim.{stacked_on, AreStacked}

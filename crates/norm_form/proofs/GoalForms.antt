@@ -8,7 +8,7 @@ use Rattle.lin_truth.specs.Term.{Term, exists_of}
 use Rattle.lin_truth.specs.Truth.{Same, True}
 use Rattle.lin_truth.specs.Formed.{append_all, IsFormula}
 use Rattle.lin_form.specs.declared.FormFault.{FormFault}
-use Rattle.norm_form.specs.declared.normal.Normal.{Normal as Built}
+use Rattle.norm_form.specs.declared.normal.LevelForm.{LevelForm as Built}
 use Rattle.norm_form.specs.Normal.{Normal, IsNormal, TrueN}
 use Rattle.norm_form.specs.Cap.{capped}
 use Rattle.norm_form.specs.View.{shape_of, IsBuilt}

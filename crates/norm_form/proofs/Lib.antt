@@ -27,3 +27,5 @@ pub mod Claiming
 pub mod Wrapping
 pub mod Walking
 pub mod GoalForms
+pub mod Preorder
+pub mod Answering

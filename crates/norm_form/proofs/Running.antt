@@ -1,6 +1,7 @@
 -- Cases run one after the other.
-use Rattle.std.specs.Prelude.{ℕ, ◌≡◌, Bool, true, List, [], ◌∷◌, ◌++◌, Option, None, Some, Result, Ok, Err}
+use Rattle.std.specs.Prelude.{ℕ, ◌+◌, ◌≡◌, ◌≤◌, Bool, true, List, [], ◌∷◌, ◌++◌, take, drop, length, Option, None, Some, Result, Ok, Err}
 use Rattle.std.proofs.Common.{ap, ◌∙◌, sym, subst, refl}
+use Rattle.std.proofs.lemmas.List.{take-append-drop, take_all}
 use Rattle.lin_form.specs.declared.FormFault.{FormFault}
 use Rattle.lin_form.specs.declared.FormFault.TheVariants as faults
 use Rattle.lin_form.specs.Lin.{Lin}
@@ -8,9 +9,10 @@ use Rattle.lin_form.specs.Kept.{within, lins_numbers}
 use Rattle.lin_form.specs.Outcome.{Formed}
 use Rattle.norm_form.specs.declared.branches.Case.{Case}
 use Rattle.norm_form.specs.declared.branches.Case.TheVariants as cases
-use Rattle.norm_form.specs.declared.normal.Normal.{Normal as Built}
+use Rattle.norm_form.specs.declared.change.Step.{Step}
+use Rattle.norm_form.specs.declared.normal.LevelForm.{LevelForm as Built}
 use Rattle.norm_form.specs.Cap.{capped_maker, keep_if}
-use Rattle.norm_form.specs.Cases.{chosen, bounded, put, run, run_back, HasNone, AreCases, AreBack, AreTurned, AreTurnedBack}
+use Rattle.norm_form.specs.Cases.{chosen, bounded, put, run, run_back, HasNone, AreCases, AreBack, AreTurned, AreTurnedBack, IsTurned, AreBothBack, joined, stepped}
 use Rattle.norm_form.specs.Normal.{Normal}
 use Rattle.norm_form.specs.View.{shape_of}
 
@@ -136,6 +138,25 @@ cases_stop f g faults.Memory h = h
 cases_stop f g faults.Size h = h
 cases_stop f g faults.Variables h = h
 
+pub both_back_cases : (f : (ℕ → Lin → Option Normal) → ℕ → Lin → Option Normal) (g : (ℕ → Lin → Option Normal) → Option Normal) (cs : List Case) (r : Result (List Case) FormFault) → AreBack g (Ok cs) → AreBothBack f cs r → AreBack (λ k. g (f k)) r
+both_back_cases f g cs (Ok out) h t = λ k rs. t k rs ∙ h (f k) rs
+both_back_cases f g cs (Err faults.Number) h t = λ k. none_one (g (f k)) (subst HasNone (h (f k) []) (t k))
+both_back_cases f g cs (Err faults.Memory) h t = tt
+both_back_cases f g cs (Err faults.Size) h t = t
+both_back_cases f g cs (Err faults.Variables) h t = t
+
+pub both_back_stop : (f : (ℕ → Lin → Option Normal) → ℕ → Lin → Option Normal) (g : (ℕ → Lin → Option Normal) → Option Normal) (z : FormFault) → AreBack g (Err z) → AreBack (λ k. g (f k)) (Err z)
+both_back_stop f g faults.Number h = λ k. h (f k)
+both_back_stop f g faults.Memory h = h
+both_back_stop f g faults.Size h = h
+both_back_stop f g faults.Variables h = h
+
+pub round_stop : (g : (ℕ → Lin → Option Normal) → Option Normal) (z : FormFault) → AreCases g (Err z) → AreBack g (Err z)
+round_stop g faults.Number h = h
+round_stop g faults.Memory h = h
+round_stop g faults.Size h = h
+round_stop g faults.Variables h = h
+
 pub back_stop : (f : (ℕ → Lin → Option Normal) → ℕ → Lin → Option Normal) (g : (ℕ → Lin → Option Normal) → Option Normal) (z : FormFault) → AreCases g (Err z) → AreBack (λ k. g (f k)) (Err z)
 back_stop f g faults.Number h = λ k. h (f k)
 back_stop f g faults.Memory h = h
@@ -169,6 +190,72 @@ flip_step all old todo out new c e f h k rs =
     ∙ run_append out (c ∷ []) k (run_back todo k rs)
     ∙ ap (run out k) (sym (back_append todo (c ∷ []) k rs) ∙ ap (λ (cs : List Case). run_back cs k rs) (sym e))
     ∙ h k rs
+
+pub flip_back : (all old todo out new : List Case) (c : Case) → old ≡ todo ++ c ∷ [] → new ≡ out ++ c ∷ [] → ((k : ℕ → Lin → Option Normal) (rs : List (Option Normal)) → run old k (run_back out k rs) ≡ run all k rs) → (k : ℕ → Lin → Option Normal) (rs : List (Option Normal)) → run todo k (run_back new k rs) ≡ run all k rs
+flip_back all old todo out new c e f h k rs =
+    ap (λ (cs : List Case). run todo k (run_back cs k rs)) f
+    ∙ ap (run todo k) (back_append out (c ∷ []) k rs)
+    ∙ sym (run_append todo (c ∷ []) k (run_back out k rs))
+    ∙ ap (λ (cs : List Case). run cs k (run_back out k rs)) (sym e)
+    ∙ h k rs
+
+-- ---- each form in its turn, of cases that stand in reversed order
+
+pub back_none : (cs : List Case) (k : ℕ → Lin → Option Normal) (rs : List (Option Normal)) → HasNone rs → HasNone (run_back cs k rs)
+back_none [] k rs h = h
+back_none (c ∷ cs) k rs h = back_none cs k (put c k rs) (put_none c k rs h)
+
+-- the first i of them
+abbrev pub BothStand : ((ℕ → Lin → Option Normal) → ℕ → Lin → Option Normal) → List Case → ℕ → List Case → Type 0
+BothStand f all i out = (k : ℕ → Lin → Option Normal) (rs : List (Option Normal)) → run_back out k rs ≡ run_back (take i all) (f k) rs
+
+pub both_more : (f : (ℕ → Lin → Option Normal) → ℕ → Lin → Option Normal) (all out more new : List Case) (i : ℕ) (c : Case) → BothStand f all i out → take (i + 1) all ≡ take i all ++ c ∷ [] → new ≡ out ++ more → IsTurned f c (Ok more) → BothStand f all (i + 1) new
+both_more f all out more new i c h e g m k rs =
+    ap (λ (cs : List Case). run_back cs k rs) g
+    ∙ back_append out more k rs
+    ∙ m k (run_back out k rs)
+    ∙ ap (put c (f k)) (h k rs)
+    ∙ sym (back_append (take i all) (c ∷ []) (f k) rs)
+    ∙ ap (λ (cs : List Case). run_back cs (f k) rs) (sym e)
+
+both_stops : (f : (ℕ → Lin → Option Normal) → ℕ → Lin → Option Normal) (all : List Case) (i : ℕ) (c : Case) → take (i + 1) all ≡ take i all ++ c ∷ [] → ((k : ℕ → Lin → Option Normal) (rs : List (Option Normal)) → HasNone (put c (f k) rs)) → (k : ℕ → Lin → Option Normal) → HasNone (run_back all (f k) [])
+both_stops f all i c e m k =
+    subst HasNone
+    (sym (ap (λ (cs : List Case). run_back cs (f k) []) (sym (take-append-drop (i + 1) all) ∙ ap (λ (cs : List Case). cs ++ drop (i + 1) all) e)
+    ∙ back_append (take i all ++ c ∷ []) (drop (i + 1) all) (f k) []
+    ∙ ap (run_back (drop (i + 1) all) (f k)) (back_append (take i all) (c ∷ []) (f k) [])))
+    (back_none (drop (i + 1) all) (f k) (put c (f k) (run_back (take i all) (f k) [])) (m k (run_back (take i all) (f k) [])))
+
+pub both_stop : (f : (ℕ → Lin → Option Normal) → ℕ → Lin → Option Normal) (all : List Case) (i : ℕ) (c : Case) (z : FormFault) → take (i + 1) all ≡ take i all ++ c ∷ [] → IsTurned f c (Err z) → AreBothBack f all (Err z)
+both_stop f all i c faults.Number e m = both_stops f all i c e m
+both_stop f all i c faults.Memory e m = tt
+both_stop f all i c faults.Size e m = m
+both_stop f all i c faults.Variables e m = m
+
+pub both_end : (f : (ℕ → Lin → Option Normal) → ℕ → Lin → Option Normal) (all out : List Case) (i : ℕ) → BothStand f all i out → length all ≤ i → AreBothBack f all (Ok out)
+both_end f all out i h l k rs = h k rs ∙ ap (λ (cs : List Case). run_back cs (f k) rs) (take_all i all l)
+
+-- ---- one case
+
+pub turned_form : (f : (ℕ → Lin → Option Normal) → ℕ → Lin → Option Normal) (c : Case) (d : ℕ) (x : Lin) (r : Result (List Case) FormFault) → c ≡ cases.Form d x → AreBack (λ k. f k d x) r → IsTurned f c r
+turned_form f c d x (Ok out) e h = λ k rs. h k rs ∙ ap (λ (a : Case). put a (f k) rs) (sym e)
+turned_form f c d x (Err faults.Number) e h = λ k rs. subst (λ (a : Case). HasNone (put a (f k) rs)) (sym e) (none_head (f k d x) rs (h k))
+turned_form f c d x (Err faults.Memory) e h = tt
+turned_form f c d x (Err faults.Size) e h = h
+turned_form f c d x (Err faults.Variables) e h = h
+
+pub turned_choice : (f : (ℕ → Lin → Option Normal) → ℕ → Lin → Option Normal) (c : Case) (a b : Built) (out : List Case) → c ≡ cases.Choice a b → out ≡ cases.Choice a b ∷ [] → IsTurned f c (Ok out)
+turned_choice f c a b out e g = λ k rs. ap (λ (cs : List Case). run_back cs k rs) g ∙ ap (λ (z : Case). put z (f k) rs) (sym e)
+
+pub turned_quotient : (f : (ℕ → Lin → Option Normal) → ℕ → Lin → Option Normal) (c : Case) (l u : Built) (out : List Case) → c ≡ cases.Quotient l u → out ≡ cases.Quotient l u ∷ [] → IsTurned f c (Ok out)
+turned_quotient f c l u out e g = λ k rs. ap (λ (cs : List Case). run_back cs k rs) g ∙ ap (λ (z : Case). put z (f k) rs) (sym e)
+
+pub joined_stop : (t : Step) (x : Lin) (c : Case) (d : ℕ) (y : Lin) (z : FormFault) → c ≡ cases.Form d y → Formed (stepped t x y ∷ []) (stepped t x y) (Err z) → IsTurned (joined t x) c (Err z)
+joined_stop t x c d y z e h = turned_form (joined t x) c d y (Err z) e (single_stops d (stepped t x y) z h)
+
+pub joined_made : (t : Step) (x : Lin) (c : Case) (d : ℕ) (y w : Lin) (out : List Case) → c ≡ cases.Form d y → Formed (stepped t x y ∷ []) (stepped t x y) (Ok w) → out ≡ cases.Form d w ∷ [] → IsTurned (joined t x) c (Ok out)
+joined_made t x c d y w out e h g =
+    turned_form (joined t x) c d y (Ok out) e (subst (λ (cs : List Case). AreBack (λ k. joined t x k d y) (Ok cs)) (sym g) (single_made d (stepped t x y) w h))
 
 -- ---- a divisor that was worked out behind the cases
 

@@ -3,27 +3,27 @@ use Rattle.std.specs.Prelude.{suc, ◌+◌, ◌≡◌, ◌≢◌, Bool, true, fa
 use Rattle.std.proofs.Common.{arith, ap, ◌∙◌, sym, refl, length-append}
 use Rattle.std.proofs.lemmas.List.{map-append}
 use Rattle.lin_term.specs.declared.Lit.{Lit}
-use Rattle.norm_form.specs.declared.normal.Normal.{Normal as Built, fold-roll-Normal}
-use Rattle.norm_form.specs.declared.normal.Normal.TheOpen as open_normal
-use Rattle.norm_form.specs.declared.normal.Normal.TheVariants as built
+use Rattle.norm_form.specs.declared.normal.LevelForm.{LevelForm as Built, fold-roll-LevelForm}
+use Rattle.norm_form.specs.declared.normal.LevelForm.TheOpen as open_normal
+use Rattle.norm_form.specs.declared.normal.LevelForm.TheVariants as built
 use Rattle.norm_form.specs.Normal.{Normal, one_lit, each_of, some_of, for_all, there_is, Normals, no_part, part}
 use Rattle.norm_form.specs.Norm.{joined_by}
 use Rattle.norm_form.specs.View.{parts_of, shape_step, shape_of, shapes_of}
 
 pub shape_lit : (l : Lit) → shape_of (built.Lit l) ≡ one_lit l
-shape_lit l = ap shape_of (sym (built.rolls-Lit l)) ∙ fold-roll-Normal Normal shape_step (open_normal.Lit l)
+shape_lit l = ap shape_of (sym (built.rolls-Lit l)) ∙ fold-roll-LevelForm Normal shape_step (open_normal.Lit l)
 
 pub shape_and : (ns : List Built) → shape_of (built.And ns) ≡ each_of (shapes_of ns)
-shape_and ns = ap shape_of (sym (built.rolls-And ns)) ∙ fold-roll-Normal Normal shape_step (open_normal.And ns)
+shape_and ns = ap shape_of (sym (built.rolls-And ns)) ∙ fold-roll-LevelForm Normal shape_step (open_normal.And ns)
 
 pub shape_or : (ns : List Built) → shape_of (built.Or ns) ≡ some_of (shapes_of ns)
-shape_or ns = ap shape_of (sym (built.rolls-Or ns)) ∙ fold-roll-Normal Normal shape_step (open_normal.Or ns)
+shape_or ns = ap shape_of (sym (built.rolls-Or ns)) ∙ fold-roll-LevelForm Normal shape_step (open_normal.Or ns)
 
 pub shape_forall : (n : Built) → shape_of (built.Forall n) ≡ for_all (shape_of n)
-shape_forall n = ap shape_of (sym (built.rolls-Forall n)) ∙ fold-roll-Normal Normal shape_step (open_normal.Forall n)
+shape_forall n = ap shape_of (sym (built.rolls-Forall n)) ∙ fold-roll-LevelForm Normal shape_step (open_normal.Forall n)
 
 pub shape_exists : (n : Built) → shape_of (built.Exists n) ≡ there_is (shape_of n)
-shape_exists n = ap shape_of (sym (built.rolls-Exists n)) ∙ fold-roll-Normal Normal shape_step (open_normal.Exists n)
+shape_exists n = ap shape_of (sym (built.rolls-Exists n)) ∙ fold-roll-LevelForm Normal shape_step (open_normal.Exists n)
 
 abbrev pub push_part : Normals → Normal → Normals
 push_part no_part m = part m no_part

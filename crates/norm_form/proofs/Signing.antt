@@ -19,7 +19,7 @@ use Rattle.norm_form.specs.declared.literal.Signs.{Signs}
 use Rattle.norm_form.specs.Normal.{one_lit}
 use Rattle.norm_form.specs.Norm.{closed, closed_truth, leaf, leaf_by, is_nonneg, is_positive, is_zero}
 use Rattle.norm_form.specs.View.{shape_of}
-use Rattle.norm_form.specs.Literal.{IsKept, AreSigned}
+use Rattle.norm_form.specs.Literal.{IsFormedLiteral, AreSigned}
 
 pub prim_of : (s : Sort) (l : Lit) → IsPrimable s l → IsPrimitive s (prim s l)
 prim_of s l h = (of s l h, prim_again s l)
@@ -77,13 +77,13 @@ and_false : (b : Bool) → b && false ≡ false
 and_false true = refl
 and_false false = refl
 
-pub first_stops : (s : Sort) (l : Lit) (f : FormFault) → IsKept (lit_numbers (prim s l)) (prim s l) (Err f) → AreSigned s l (Err f)
+pub first_stops : (s : Sort) (l : Lit) (f : FormFault) → IsFormedLiteral (lit_numbers (prim s l)) (prim s l) (Err f) → AreSigned s l (Err f)
 first_stops s l faults.Number h = within_append (lit_numbers (prim s l)) (lit_numbers (neg s (prim s l))) ∙ ap (λ (b : Bool). b && within (lit_numbers (neg s (prim s l)))) h
 first_stops s l faults.Memory h = tt
 first_stops s l faults.Size h = h
 first_stops s l faults.Variables h = h
 
-pub second_stops : (s : Sort) (l p : Lit) (f : FormFault) → p ≡ prim s l → IsKept (lit_numbers (neg s p)) (neg s p) (Err f) → AreSigned s l (Err f)
+pub second_stops : (s : Sort) (l p : Lit) (f : FormFault) → p ≡ prim s l → IsFormedLiteral (lit_numbers (neg s p)) (neg s p) (Err f) → AreSigned s l (Err f)
 second_stops s l p faults.Number e h =
     within_append (lit_numbers (prim s l)) (lit_numbers (neg s (prim s l)))
     ∙ ap (λ (b : Bool). within (lit_numbers (prim s l)) && b) (subst (λ (z : Lit). within (lit_numbers (neg s z)) ≡ false) e h) ∙ and_false (within (lit_numbers (prim s l)))
@@ -91,7 +91,7 @@ second_stops s l p faults.Memory e h = tt
 second_stops s l p faults.Size e h = h
 second_stops s l p faults.Variables e h = h
 
-pub both_made : (s : Sort) (l p n : Lit) (z : Signs) → IsKept (lit_numbers (prim s l)) (prim s l) (Ok p) → IsKept (lit_numbers (neg s p)) (neg s p) (Ok n) → shape_of z.yes ≡ leaf p → shape_of z.no ≡ leaf n → AreSigned s l (Ok z)
+pub both_made : (s : Sort) (l p n : Lit) (z : Signs) → IsFormedLiteral (lit_numbers (prim s l)) (prim s l) (Ok p) → IsFormedLiteral (lit_numbers (neg s p)) (neg s p) (Ok n) → shape_of z.yes ≡ leaf p → shape_of z.no ≡ leaf n → AreSigned s l (Ok z)
 both_made s l p n z h k a b = (
   within_append (lit_numbers (prim s l)) (lit_numbers (neg s (prim s l))) ∙ ap₂ (λ (x y : Bool). x && y) h.0 (subst (λ (q : Lit). within (lit_numbers (neg s q)) ≡ true) h.1 k.0),
   a ∙ ap leaf h.1,

@@ -14,7 +14,7 @@ use Rattle.lin_form.proofs.Forming.{within_both}
 use Rattle.norm_form.specs.declared.change.Division.TheVariants as divisions
 use Rattle.lin_form.specs.Low.{as_lin, low, low_sum, low_product, steps}
 use Rattle.norm_form.specs.declared.branches.Case.{Case}
-use Rattle.norm_form.specs.declared.normal.Normal.{Normal as Built}
+use Rattle.norm_form.specs.declared.normal.LevelForm.{LevelForm as Built}
 use Rattle.norm_form.specs.Cap.{capped_maker, keep_if, over, over2}
 use Rattle.norm_form.specs.Cases.{run, HasNone, AreCases, AreTurned, divided}
 use Rattle.norm_form.specs.Norm.{gnorm, gnorms, glin, glin_sum, glin_product, glin_of, gchoose, joined_by, div_forms, multiple}

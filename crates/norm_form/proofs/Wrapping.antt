@@ -5,7 +5,7 @@ use Rattle.lin_truth.specs.declared.term.VarSort.{VarSort}
 use Rattle.lin_form.specs.declared.Bound.{Bound}
 use Rattle.lin_form.specs.declared.FormFault.{FormFault}
 use Rattle.lin_form.specs.declared.FormFault.TheVariants as faults
-use Rattle.norm_form.specs.declared.normal.Normal.{Normal as Built}
+use Rattle.norm_form.specs.declared.normal.LevelForm.{LevelForm as Built}
 use Rattle.norm_form.specs.Cap.{capped_maker, over}
 use Rattle.norm_form.specs.Norm.{bind_one, gbind}
 use Rattle.norm_form.specs.Normal.{Normal}

@@ -81,6 +81,22 @@ AreTurnedBack f cs (Err faults.Memory) = ⊤
 AreTurnedBack f cs (Err faults.Size) = ⊥
 AreTurnedBack f cs (Err faults.Variables) = ⊥
 
+-- one case, whose form went through f: what stands for it, in reversed order
+abbrev pub IsTurned : ((ℕ → Lin → Option Normal) → ℕ → Lin → Option Normal) → Case → Result (List Case) FormFault → Type 0
+IsTurned f c (Ok out) = (k : ℕ → Lin → Option Normal) (rs : List (Option Normal)) → run_back out k rs ≡ put c (f k) rs
+IsTurned f c (Err faults.Number) = (k : ℕ → Lin → Option Normal) (rs : List (Option Normal)) → HasNone (put c (f k) rs)
+IsTurned f c (Err faults.Memory) = ⊤
+IsTurned f c (Err faults.Size) = ⊥
+IsTurned f c (Err faults.Variables) = ⊥
+
+-- each form of cases that stand in reversed order went through f; the result stands so too
+abbrev pub AreBothBack : ((ℕ → Lin → Option Normal) → ℕ → Lin → Option Normal) → List Case → Result (List Case) FormFault → Type 0
+AreBothBack f cs (Ok out) = (k : ℕ → Lin → Option Normal) (rs : List (Option Normal)) → run_back out k rs ≡ run_back cs (f k) rs
+AreBothBack f cs (Err faults.Number) = (k : ℕ → Lin → Option Normal) → HasNone (run_back cs (f k) [])
+AreBothBack f cs (Err faults.Memory) = ⊤
+AreBothBack f cs (Err faults.Size) = ⊥
+AreBothBack f cs (Err faults.Variables) = ⊥
+
 -- ---- what is done with one form
 
 abbrev pub stepped : Step → Lin → Lin → Lin
@@ -88,6 +104,10 @@ stepped steps.Plus x y = lin_plus x y
 stepped steps.Minus x y = lin_minus x y
 stepped steps.From x y = lin_minus y x
 stepped steps.Times x y = lin_times x y
+
+-- a step on a first form and each of a second number
+abbrev pub joined : Step → Lin → (ℕ → Lin → Option Normal) → ℕ → Lin → Option Normal
+joined t x k f y = capped_maker.formed (stepped t x y ∷ []) (k f (stepped t x y))
 
 abbrev pub changed : Change → Sort → (ℕ → Lin → Option Normal) → ℕ → Lin → Option Normal
 changed changes.Negative s k e x = capped_maker.formed (lin_neg x ∷ []) (k e (lin_neg x))
@@ -97,7 +117,6 @@ changed (changes.Whole y) s k e x =
     capped_maker.formed (div_forms y.form.constant x e) (capped_maker.div_form s y.form.constant x e (k (suc e) (lin_variable e)))
 changed (changes.Rest y) s k e x =
     capped_maker.formed (div_forms y.form.constant x e) (capped_maker.div_form s y.form.constant x e (k (suc e) (lin_minus x (multiple y.form.constant e))))
-changed (changes.Join t y) s k e x = capped_maker.formed (stepped t y x ∷ []) (k e (stepped t y x))
 
 abbrev pub divided : Division → Lin → Sort → (ℕ → Lin → Option Normal) → ℕ → Lin → Option Normal
 divided divisions.Over y s k e x = changed (changes.Over y) s k e x

@@ -7,7 +7,7 @@ use Rattle.lin_form.specs.declared.FormFault.TheVariants as faults
 use Rattle.lin_form.specs.Lin.{Lin}
 use Rattle.norm_form.specs.declared.claim.Claim.{Claim}
 use Rattle.norm_form.specs.declared.claim.Claim.TheVariants as claims
-use Rattle.norm_form.specs.declared.normal.Normal.{Normal as Built}
+use Rattle.norm_form.specs.declared.normal.LevelForm.{LevelForm as Built}
 use Rattle.norm_form.specs.Cap.{capped_maker}
 use Rattle.norm_form.specs.Cases.{HasNone}
 use Rattle.norm_form.specs.Norm.{modulus}

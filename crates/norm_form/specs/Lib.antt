@@ -11,3 +11,4 @@ pub mod Bounds
 pub mod Claim
 pub mod Walk
 pub mod Pairing
+pub mod Outcome

@@ -11,12 +11,12 @@ use Rattle.norm_form.specs.Norm.{signed}
 use Rattle.norm_form.specs.View.{shape_of}
 
 -- the numbers are within the cap and the answer is the value, or one is not; want of memory is free
-abbrev pub IsKept : {A : Type 0} → List ℤ → A → Result A FormFault → Type 0
-IsKept {A} zs v (Ok x) = (within zs ≡ true) × (x ≡ v)
-IsKept {A} zs v (Err faults.Number) = within zs ≡ false
-IsKept {A} zs v (Err faults.Memory) = ⊤
-IsKept {A} zs v (Err faults.Size) = ⊥
-IsKept {A} zs v (Err faults.Variables) = ⊥
+abbrev pub IsFormedLiteral : {A : Type 0} → List ℤ → A → Result A FormFault → Type 0
+IsFormedLiteral {A} zs v (Ok x) = (within zs ≡ true) × (x ≡ v)
+IsFormedLiteral {A} zs v (Err faults.Number) = within zs ≡ false
+IsFormedLiteral {A} zs v (Err faults.Memory) = ⊤
+IsFormedLiteral {A} zs v (Err faults.Size) = ⊥
+IsFormedLiteral {A} zs v (Err faults.Variables) = ⊥
 
 -- a literal and its negation
 abbrev pub AreSigned : Sort → Lit → Result Signs FormFault → Type 0

@@ -1,10 +1,11 @@
 -- The normal form with its binders numbered in preorder, as it is public.
-use Rattle.std.specs.Prelude.{ℕ, zero, suc, ◌+◌, ℤ, List, [], ◌∷◌, ◌++◌, cond, nat_eq}
+use Rattle.std.specs.Prelude.{ℕ, zero, suc, ◌+◌, ◌<◌, ◌≡◌, ◌^◌, ℤ, List, [], ◌∷◌, ◌++◌, cond, nat_eq, length, ⊤}
 use Rattle.lin_term.specs.declared.Sort.{Sort}
-use Rattle.lin_term.specs.Linear.{Form, origin}
+use Rattle.lin_term.specs.Linear.{Form, Below, origin}
+use Rattle.lin_term.specs.Rising.{IsRisingAt}
 use Rattle.lin_term.specs.declared.Lit.{Lit}
 use Rattle.lin_term.specs.declared.Lit.TheVariants.{AtLeast, Above, Divides, NotDivides}
-use Rattle.lin_term.specs.Literal.{rename_lit}
+use Rattle.lin_term.specs.Literal.{form_of, rename_lit}
 use Rattle.lin_truth.specs.declared.term.VarSort.{VarSort}
 use Rattle.lin_truth.specs.Term.{Term}
 use Rattle.norm_form.specs.Normal.{Normal, one_lit, each_of, some_of, for_all, there_is, Normals, no_part, part, TrueN}
@@ -102,3 +103,20 @@ abbrev mutual
 abbrev pub count_from : ℕ → ℕ → List ℕ
 count_from n zero = []
 count_from n (suc k) = n ∷ count_from (suc n) k
+
+-- the binders have the numbers 0, 1, 2 and so on in preorder
+abbrev pub IsInPreorder : Numbered → Type 0
+IsInPreorder n = numbers_in n ≡ count_from 0 (length (numbers_in n))
+
+-- ---- each literal speaks of its path, whose names ascend, and no number reaches 1,024
+abbrev mutual
+  pub CanNumber : Normal → ℕ → List ℕ → Type 0
+  CanNumber (one_lit l) next names = Below (length names) (form_of l) × IsRisingAt names (form_of l).terms (2 ^ 20)
+  CanNumber (each_of ns) next names = CanNumberAll ns next names
+  CanNumber (some_of ns) next names = CanNumberAll ns next names
+  CanNumber (for_all n) next names = (next < 1024) × CanNumber n (suc next) (names ++ next ∷ [])
+  CanNumber (there_is n) next names = (next < 1024) × CanNumber n (suc next) (names ++ next ∷ [])
+
+  pub CanNumberAll : Normals → ℕ → List ℕ → Type 0
+  CanNumberAll no_part next names = ⊤
+  CanNumberAll (part n ns) next names = CanNumber n next names × CanNumberAll ns (next + binders n) names

@@ -6,7 +6,9 @@ use Rattle.lin_form.specs.declared.Bound.{Bound}
 use Rattle.lin_form.specs.Lin.{Lin}
 use Rattle.norm_form.specs.Cap.{capped_maker}
 use Rattle.norm_form.specs.Norm.{gnorm}
+use Rattle.norm_form.specs.declared.connective.Contraries.{Contraries}
 use Rattle.norm_form.specs.Normal.{Normal}
+use Rattle.norm_form.specs.View.{IsBuilt}
 
 abbrev pub other_part : Term → Term
 other_part (ite c a b) = b
@@ -20,3 +22,7 @@ test_part t = t
 abbrev pub paired_form : Term → Sort → List Bound → Lin → (ℕ → Lin → Option Normal) → ℕ → Lin → Option Normal
 paired_form t s ctx x k f y =
     capped_maker.ite_form (gnorm capped_maker (test_part t) s true ctx f) (gnorm capped_maker (test_part t) s false ctx f) (k f x) (k f y)
+
+-- the test of t and its negation, at a level
+abbrev pub IsTested : Term → Sort → List Bound → ℕ → Contraries → Type 0
+IsTested t s ctx d c = IsBuilt (gnorm capped_maker (test_part t) s true ctx d) c.yes × IsBuilt (gnorm capped_maker (test_part t) s false ctx d) c.no

@@ -2,8 +2,8 @@
 use Rattle.std.specs.Prelude.{◌≡◌, List, [], ◌∷◌, map, Option, None, Some, Result, Ok, Err, ⊤}
 use Rattle.lin_form.specs.declared.FormFault.{FormFault}
 use Rattle.lin_form.specs.declared.FormFault.TheVariants as faults
-use Rattle.norm_form.specs.declared.normal.Normal.{Normal as Built, fold-Normal}
-use Rattle.norm_form.specs.declared.normal.Normal.TheOpen.{Normal-F}
+use Rattle.norm_form.specs.declared.normal.LevelForm.{LevelForm as Built, fold-LevelForm}
+use Rattle.norm_form.specs.declared.normal.LevelForm.TheOpen.{LevelForm-F}
 use Rattle.norm_form.specs.Normal.{Normal, one_lit, each_of, some_of, for_all, there_is, Normals, no_part, part}
 
 abbrev pub parts_of : List Normal → Normals
@@ -11,15 +11,15 @@ parts_of [] = no_part
 parts_of (n ∷ ns) = part n (parts_of ns)
 
 -- one level, with each part already seen
-abbrev pub shape_step : Normal-F Normal → Normal
-shape_step (Normal-F.Lit l) = one_lit l
-shape_step (Normal-F.And ns) = each_of (parts_of ns)
-shape_step (Normal-F.Or ns) = some_of (parts_of ns)
-shape_step (Normal-F.Forall n) = for_all n
-shape_step (Normal-F.Exists n) = there_is n
+abbrev pub shape_step : LevelForm-F Normal → Normal
+shape_step (LevelForm-F.Lit l) = one_lit l
+shape_step (LevelForm-F.And ns) = each_of (parts_of ns)
+shape_step (LevelForm-F.Or ns) = some_of (parts_of ns)
+shape_step (LevelForm-F.Forall n) = for_all n
+shape_step (LevelForm-F.Exists n) = there_is n
 
 abbrev pub shape_of : Built → Normal
-shape_of = fold-Normal Normal shape_step
+shape_of = fold-LevelForm Normal shape_step
 
 -- each part's form
 abbrev pub shapes_of : List Built → Normals

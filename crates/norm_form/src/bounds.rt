@@ -8,7 +8,7 @@ ghost use Rattle.norm_form.specs.Bounds.{AreSides, AreBounds};
 ghost use Rattle.norm_form.specs.Norm.{multiple as multiple_form, div_top};
 
 use crate::literal::both_signs;
-use crate::normal::Normal;
+use crate::normal::LevelForm;
 use lin_form::{FormFault, LinForm, minus, plus, scaled, variable};
 use lin_term::{Lit, Row, Sort};
 use std::alloc::Global;
@@ -23,8 +23,8 @@ pub(crate) struct Sides {
 /// The literals of both bounds, and what is left of the term.
 #[derive(Drop)]
 pub(crate) struct Bounds {
-    pub low: Normal,
-    pub high: Normal,
+    pub low: LevelForm,
+    pub high: LevelForm,
     pub rest: LinForm,
 }
 

@@ -5,7 +5,7 @@ ghost use Rattle.lin_form.specs.Lin.{Lin, lin_neg};
 ghost use Rattle.lin_form.specs.Outcome.{Formed};
 ghost use Rattle.norm_form.specs.Cap.{capped_maker};
 ghost use Rattle.norm_form.specs.Cap.{over as option_over};
-ghost use Rattle.norm_form.specs.Cases.{AreCases, AreBack, AreTurnedBack, between, changed, divided, stepped, run_back};
+ghost use Rattle.norm_form.specs.Cases.{AreCases, AreBack, AreBothBack, AreTurnedBack, IsTurned, between, changed, divided, joined, stepped, run_back};
 ghost use Rattle.norm_form.specs.Literal.{AreSigned};
 ghost use Rattle.norm_form.specs.Normal.{Normal as NormalTree};
 ghost use Rattle.norm_form.specs.View.{IsBuilt, shape_of};
@@ -14,10 +14,10 @@ ghost use Rattle.lin_term.specs.declared.Sort.{Sort};
 ghost use Rattle.lin_term.specs.declared.Lit.TheVariants.{AtLeast};
 
 use crate::bounds::bounds_of;
-use crate::branches::{Case, LEVELS, one, righted};
+use crate::branches::{Case, LEVELS, kept_choice, kept_quotient, one, righted};
 use crate::connective::Contraries;
 use crate::literal::{Signs, both_signs};
-use crate::normal::Normal;
+use crate::normal::LevelForm;
 use lin_form::{FormFault, LinForm, minus, negative, over, plus, times, variable};
 use lin_term::{Lit, Memory, Sort};
 use sqlite_items::Items;
@@ -51,8 +51,6 @@ pub(crate) enum Change {
     Whole(LinForm),
     /// The remainder by a form without variables.
     Rest(LinForm),
-    /// A step on a first form and this one.
-    Join(Step, LinForm),
 }
 
 /// A step on two forms.
@@ -126,8 +124,8 @@ fn absolute_cases(
 fn in_bounds(
     alloc: Global,
     level: u32,
-    low: Normal,
-    high: Normal,
+    low: LevelForm,
+    high: LevelForm,
     form: LinForm,
 ) -> Result<Items<Case>, Memory>
     ensures { IfOk result (λ all. (k : ℕ → Lin → Option NormalTree) (rs : List (Option NormalTree)) → run_back all k rs ≡ option_over (between (shape_of low) (shape_of high)) (k (suc level) form) ∷ rs) }
@@ -192,7 +190,6 @@ fn changed_cases(
         Change::Over(by) => single(alloc, level, over(alloc, &x, by)),
         Change::Whole(by) => whole_cases(alloc, sort, by, level, &x),
         Change::Rest(by) => rest_cases(alloc, sort, by, level, &x),
-        Change::Join(step, y) => single(alloc, level, step_taken(alloc, *step, y, &x)),
     }
 }
 
@@ -240,21 +237,60 @@ pub(crate) fn turned(
     righted(alloc, back)
 }
 
-/// The cases of a term with those of each form in reversed order.
+/// What a step on a first form makes of a case of a second number.
+fn joined_case(
+    alloc: Global,
+    step: Step,
+    x: &LinForm,
+    case: &Case,
+) -> Result<Items<Case>, FormFault>
+    ensures { IsTurned (joined step x.now) case.now result }
+{
+    match case {
+        Case::Form(level, y) => {
+            let form = match step_taken(alloc, step, x, y) {
+                Ok(form) => form,
+                Err(fault) => return Err(fault),
+            };
+            Ok(one(alloc, *level, form)?)
+        }
+        Case::Choice(test, untest) => Ok(kept_choice(alloc, test, untest)?),
+        Case::Quotient(low, high) => Ok(kept_quotient(alloc, low, high)?),
+    }
+}
+
+/// A step on a first form and each form of a second number, whose cases stand in reversed order.
+fn joined_each(
+    alloc: Global,
+    step: Step,
+    x: &LinForm,
+    cases: &[Case],
+) -> Result<Items<Case>, FormFault>
+    ensures { AreBothBack (joined step x.now) cases.now result }
+{
+    let mut out = Items::new(alloc);
+    for case in cases {
+        match joined_case(alloc, step, x, case) {
+            Ok(more) => out.append(more)?,
+            Err(fault) => return Err(fault),
+        }
+    }
+    Ok(out)
+}
+
+/// The same of cases that were worked out.
 pub(crate) fn joined_back(
     alloc: Global,
-    sort: Sort,
     step: Step,
-    x: LinForm,
-    cases: Result<Items<Case>, FormFault>,
+    x: &LinForm,
+    cases: &Result<Items<Case>, FormFault>,
 ) -> Result<Items<Case>, FormFault>
-    ensures { (g : (ℕ → Lin → Option NormalTree) → Option NormalTree) → AreCases g cases → AreBack (λ k. g (λ f y. capped_maker.formed (stepped step x y ∷ []) (k f (stepped step x y)))) result }
+    ensures { (g : (ℕ → Lin → Option NormalTree) → Option NormalTree) → AreBack g cases.now → AreBack (λ k. g (joined step x.now k)) result }
 {
-    let cases = match cases {
-        Ok(cases) => cases,
-        Err(fault) => return Err(fault),
-    };
-    turned_back(alloc, sort, &Change::Join(step, x), cases)
+    match cases {
+        Ok(cases) => joined_each(alloc, step, x, cases.as_slice()),
+        Err(fault) => Err(*fault),
+    }
 }
 
 /// The cases of a term, each form changed by a constant term that was worked out behind the first.
@@ -286,23 +322,22 @@ pub(crate) fn divided_cases(
 pub(crate) fn pair_cases(
     alloc: Global,
     level: u32,
-    x: LinForm,
-    y: LinForm,
-    test: Contraries,
+    x: &LinForm,
+    y: &LinForm,
+    test: &Contraries,
 ) -> Result<Items<Case>, FormFault>
-    ensures { (p n : Option NormalTree) → IsBuilt p test.yes → IsBuilt n test.no → AreBack (λ k. capped_maker.ite_form p n (k level x) (k level y)) result }
+    ensures { (p n : Option NormalTree) → IsBuilt p test.now.yes → IsBuilt n test.now.no → AreBack (λ k. capped_maker.ite_form p n (k level x.now) (k level y.now)) result }
 {
-    let Contraries { yes, no } = test;
-    let yes = match yes {
+    let yes = match &test.yes {
         Ok(yes) => yes,
-        Err(fault) => return Err(fault),
+        Err(fault) => return Err(*fault),
     };
-    let no = match no {
+    let no = match &test.no {
         Ok(no) => no,
-        Err(fault) => return Err(fault),
+        Err(fault) => return Err(*fault),
     };
-    let mut all = one(alloc, level, y)?;
-    all.push(Case::Form(level, x))?;
-    all.push(Case::Choice(yes, no))?;
+    let mut all = one(alloc, level, y.copy(alloc)?)?;
+    all.push(Case::Form(level, x.copy(alloc)?))?;
+    all.push(Case::Choice(yes.copy(alloc)?, no.copy(alloc)?))?;
     Ok(all)
 }

@@ -13,7 +13,7 @@ ghost use Rattle.norm_form.specs.declared.claim.Claim.TheVariants as claims;
 use crate::branches::Case;
 use crate::connective::both;
 use crate::literal::both_signs;
-use crate::normal::{Normal, between, choice};
+use crate::normal::{LevelForm, between, choice};
 use lin_form::{FormFault, LinForm, negative};
 use lin_term::{CAP, Lit, Memory, Sort};
 use sqlite_items::Items;
@@ -29,7 +29,12 @@ pub(crate) enum Claim {
 }
 
 /// A literal, or its negation.
-pub(crate) fn literal(alloc: Global, sort: Sort, truth: bool, lit: Lit) -> Result<Normal, FormFault>
+pub(crate) fn literal(
+    alloc: Global,
+    sort: Sort,
+    truth: bool,
+    lit: Lit,
+) -> Result<LevelForm, FormFault>
     requires { IsPrimable sort lit }
     ensures { IsBuilt (capped_maker.signed truth sort lit) result }
 {
@@ -41,7 +46,7 @@ pub(crate) fn literal(alloc: Global, sort: Sort, truth: bool, lit: Lit) -> Resul
 
 /// A form is 0: it and its negative are at least 0. It is not: one of the two is above 0. The negative of a form that was
 /// kept is kept, so the answer there is never a number past the cap.
-fn zero(alloc: Global, sort: Sort, truth: bool, x: LinForm) -> Result<Normal, FormFault>
+fn zero(alloc: Global, sort: Sort, truth: bool, x: LinForm) -> Result<LevelForm, FormFault>
     ensures { IsBuilt (claimed_form claims.Zero sort truth x) result }
 {
     let minus = match negative(alloc, &x) {
@@ -61,7 +66,13 @@ fn zero(alloc: Global, sort: Sort, truth: bool, x: LinForm) -> Result<Normal, Fo
 
 /// A number divides a form, or not. With the number 0, or over the rationals, which no goal has, the answer is want of
 /// memory.
-fn divided(alloc: Global, sort: Sort, truth: bool, n: u64, x: LinForm) -> Result<Normal, FormFault>
+fn divided(
+    alloc: Global,
+    sort: Sort,
+    truth: bool,
+    n: u64,
+    x: LinForm,
+) -> Result<LevelForm, FormFault>
     ensures { IsBuilt (claimed_form (claims.Divides n) sort truth x) result }
 {
     let modulus = n as u128 * x.den() as u128;
@@ -89,7 +100,7 @@ fn claimed(
     claim: Claim,
     truth: bool,
     x: LinForm,
-) -> Result<Normal, FormFault>
+) -> Result<LevelForm, FormFault>
     ensures { IsBuilt (claimed_form claim sort truth x) result }
 {
     match claim {
@@ -102,9 +113,9 @@ fn claimed(
 
 /// One more formula.
 fn with_formula(
-    stack: Items<Normal>,
-    formula: Result<Normal, FormFault>,
-) -> Result<Items<Normal>, FormFault>
+    stack: Items<LevelForm>,
+    formula: Result<LevelForm, FormFault>,
+) -> Result<Items<LevelForm>, FormFault>
     ensures { (o : Option NormalTree) → IsBuilt o formula → AreStacked (o ∷ stacked_on stack []) result }
 {
     match formula {
@@ -120,10 +131,10 @@ fn with_formula(
 /// The choice between the last two formulas; where there are fewer, which no cases have, the answer is want of memory.
 fn with_choice(
     alloc: Global,
-    test: Normal,
-    untest: Normal,
-    stack: Items<Normal>,
-) -> Result<Items<Normal>, FormFault>
+    test: LevelForm,
+    untest: LevelForm,
+    stack: Items<LevelForm>,
+) -> Result<Items<LevelForm>, FormFault>
     ensures { AreStacked (chosen (shape_of test) (shape_of untest) (stacked_on stack [])) result }
 {
     let mut stack = stack;
@@ -142,10 +153,10 @@ fn with_choice(
 /// The last formula under a quotient; where there is none, which no cases have, the answer is want of memory.
 fn with_quotient(
     alloc: Global,
-    low: Normal,
-    high: Normal,
-    stack: Items<Normal>,
-) -> Result<Items<Normal>, FormFault>
+    low: LevelForm,
+    high: LevelForm,
+    stack: Items<LevelForm>,
+) -> Result<Items<LevelForm>, FormFault>
     ensures { AreStacked (bounded (shape_of low) (shape_of high) (stacked_on stack [])) result }
 {
     let mut stack = stack;
@@ -165,8 +176,8 @@ fn placed(
     claim: Claim,
     truth: bool,
     case: Case,
-    stack: Items<Normal>,
-) -> Result<Items<Normal>, FormFault>
+    stack: Items<LevelForm>,
+) -> Result<Items<LevelForm>, FormFault>
     ensures { AreStacked (put case (λ e x. claimed_form claim sort truth x) (stacked_on stack [])) result }
 {
     match case {
@@ -183,7 +194,7 @@ fn made(
     claim: Claim,
     truth: bool,
     cases: Items<Case>,
-) -> Result<Normal, FormFault>
+) -> Result<LevelForm, FormFault>
     ensures { (g : (ℕ → Lin → Option NormalTree) → Option NormalTree) → AreCases g (Ok cases) → IsBuilt (g (λ e x. claimed_form claim sort truth x)) result }
 {
     let mut todo = cases;
@@ -207,7 +218,7 @@ pub(crate) fn atom(
     claim: Claim,
     truth: bool,
     cases: Result<Items<Case>, FormFault>,
-) -> Result<Normal, FormFault>
+) -> Result<LevelForm, FormFault>
     ensures { (g : (ℕ → Lin → Option NormalTree) → Option NormalTree) → AreCases g cases → IsBuilt (g (λ e x. claimed_form claim sort truth x)) result }
 {
     match cases {

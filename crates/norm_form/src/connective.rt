@@ -6,24 +6,24 @@ ghost use Rattle.norm_form.specs.Norm.{either_by};
 ghost use Rattle.norm_form.specs.Normal.{Normal as NormalTree};
 ghost use Rattle.norm_form.specs.View.{IsBuilt};
 
-use crate::normal::{Normal, either};
+use crate::normal::{LevelForm, either};
 use lin_form::FormFault;
 use std::alloc::Global;
 
 /// A formula and its negation. Each has bound variables of its own.
 #[derive(Drop)]
 pub(crate) struct Contraries {
-    pub yes: Result<Normal, FormFault>,
-    pub no: Result<Normal, FormFault>,
+    pub yes: Result<LevelForm, FormFault>,
+    pub no: Result<LevelForm, FormFault>,
 }
 
 /// Both, or one of the two.
 pub(crate) fn both(
     alloc: Global,
     all: bool,
-    a: Result<Normal, FormFault>,
-    b: Result<Normal, FormFault>,
-) -> Result<Normal, FormFault>
+    a: Result<LevelForm, FormFault>,
+    b: Result<LevelForm, FormFault>,
+) -> Result<LevelForm, FormFault>
     ensures { (x y : Option NormalTree) → IsBuilt x a → IsBuilt y b → IsBuilt (over2 (either_by all) x y) result }
 {
     let a = match a {
@@ -40,9 +40,9 @@ pub(crate) fn both(
 pub(crate) fn choice_of(
     alloc: Global,
     test: Contraries,
-    a: Result<Normal, FormFault>,
-    b: Result<Normal, FormFault>,
-) -> Result<Normal, FormFault>
+    a: Result<LevelForm, FormFault>,
+    b: Result<LevelForm, FormFault>,
+) -> Result<LevelForm, FormFault>
     ensures { (p n x y : Option NormalTree) → IsBuilt p test.yes → IsBuilt n test.no → IsBuilt x a → IsBuilt y b → IsBuilt (capped_maker.ite_form p n x y) result }
 {
     let first = both(alloc, false, test.no, a);
@@ -56,7 +56,7 @@ pub(crate) fn same_of(
     truth: bool,
     a: Contraries,
     b: Contraries,
-) -> Result<Normal, FormFault>
+) -> Result<LevelForm, FormFault>
     ensures { (x u y w : Option NormalTree) → IsBuilt x a.yes → IsBuilt u a.no → IsBuilt y b.yes → IsBuilt w b.no → IsBuilt (capped_maker.same_form truth x u y w) result }
 {
     if truth {

@@ -11,7 +11,7 @@ ghost use Rattle.norm_form.specs.Normal.{IsNormal, TrueN};
 ghost use Rattle.norm_form.specs.View.{IsBuilt, shape_of};
 
 use crate::formula::bound;
-use crate::normal::Normal;
+use crate::normal::LevelForm;
 use lin_form::FormFault;
 use lin_term::Sort;
 use lin_truth::{Term, VarSort};
@@ -27,7 +27,7 @@ pub fn normal_form(
     sort: Sort,
     consts: &[VarSort],
     body: &Term,
-) -> Result<Normal, FormFault>
+) -> Result<LevelForm, FormFault>
     ensures built { IsBuilt (capped sort consts.now (tree_of body.now)) result }
     // Of a formula over the constants: its literals are of the sort, each over variables around it, and it is true exactly where the goal is.
     ensures normal { IfOk result (λ n. IsFormula (tree_of body.now) sort (append_all [] consts.now) → IsNormal (shape_of n) sort 0) }

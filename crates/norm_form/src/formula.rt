@@ -11,7 +11,7 @@ use crate::branches::LEVELS;
 use crate::change::Step;
 use crate::claim::{Claim, atom};
 use crate::connective::{Contraries, both, choice_of, same_of};
-use crate::normal::{Normal, closed, joined};
+use crate::normal::{LevelForm, closed, joined};
 use crate::number::{number, second};
 use crate::scope::{is_formula_in, truth_literal, with_bound, wrapped};
 use lin_form::{Bound, FormFault, level_of};
@@ -47,7 +47,7 @@ fn formula(
     term: &Term,
     truth: bool,
     level: u32,
-) -> Result<Normal, FormFault>
+) -> Result<LevelForm, FormFault>
     ensures { IsBuilt (gnorm capped_maker (tree_of term.now) sort truth ctx.now level) result }
 {
     match term {
@@ -90,7 +90,7 @@ fn by_both_ways(
     term: &Term,
     truth: bool,
     level: u32,
-) -> Result<Normal, FormFault>
+) -> Result<LevelForm, FormFault>
     ensures { IsBuilt (gnorm capped_maker (tree_of term.now) sort truth ctx.now level) result }
 {
     match term {
@@ -128,7 +128,7 @@ fn comparison(
     term: &Term,
     truth: bool,
     level: u32,
-) -> Result<Normal, FormFault>
+) -> Result<LevelForm, FormFault>
     ensures { IsBuilt (gnorm capped_maker (tree_of term.now) sort truth ctx.now level) result }
 {
     match term {
@@ -170,7 +170,7 @@ fn parts(
     all: bool,
     truth: bool,
     level: u32,
-) -> Result<Normal, FormFault>
+) -> Result<LevelForm, FormFault>
     ensures { IsBuilt (capped_maker.joined_by all (gnorms capped_maker (trees_of terms.now) sort truth ctx.now level)) result }
 {
     let mut made = Items::new(alloc);
@@ -194,7 +194,7 @@ pub(crate) fn bound(
     body: &Term,
     truth: bool,
     level: u32,
-) -> Result<Normal, FormFault>
+) -> Result<LevelForm, FormFault>
     ensures { IsBuilt (gbind capped_maker every vars.now (λ c e. gnorm capped_maker (tree_of body.now) sort truth c e) ctx.now level) result }
 {
     if level >= LEVELS || vars.len() >= LEVELS as usize {

@@ -12,62 +12,101 @@ use std::alloc::Global;
 /// A formula of literals with quantifiers inside, negations only in literals. `And` of nothing is true, `Or` of nothing is
 /// false. A variable in a literal is the level of its binder: the number of binders outside it on the path.
 #[derive(Debug, Drop)]
-pub enum Normal {
+pub enum LevelForm {
     Lit(Lit),
-    And(Items<Normal>),
-    Or(Items<Normal>),
-    Forall(Boxed<Normal>),
-    Exists(Boxed<Normal>),
+    And(Items<LevelForm>),
+    Or(Items<LevelForm>),
+    Forall(Boxed<LevelForm>),
+    Exists(Boxed<LevelForm>),
+}
+
+impl LevelForm {
+    /// An equal form; refuses only for memory.
+    #[cycle(copy)]
+    pub fn copy(&self, alloc: Global) -> Result<LevelForm, Memory>
+        ensures { IfOk result (λ n. n ≡ self.now) }
+    {
+        match self {
+            LevelForm::Lit(lit) => Ok(LevelForm::Lit(lit.copy(alloc)?)),
+            LevelForm::And(parts) => Ok(LevelForm::And(copy_all(alloc, parts.as_slice())?)),
+            LevelForm::Or(parts) => Ok(LevelForm::Or(copy_all(alloc, parts.as_slice())?)),
+            LevelForm::Forall(inner) => {
+                let inner = inner.get().copy(alloc)?;
+                Ok(LevelForm::Forall(Boxed::new(alloc, inner)?))
+            }
+            LevelForm::Exists(inner) => {
+                let inner = inner.get().copy(alloc)?;
+                Ok(LevelForm::Exists(Boxed::new(alloc, inner)?))
+            }
+        }
+    }
+}
+
+/// Equal parts; refuses only for memory.
+#[cycle(copy)]
+fn copy_all(alloc: Global, parts: &[LevelForm]) -> Result<Items<LevelForm>, Memory>
+    ensures { IfOk result (λ items. items ≡ parts.now) }
+{
+    let mut copies = Items::new(alloc);
+    for part in parts {
+        copies.push(part.copy(alloc)?)?;
+    }
+    Ok(copies)
 }
 
 /// True or false.
 #[tactic(auto, using(crate::proofs::Shapes::shape_and, crate::proofs::Shapes::shape_or))]
-pub(crate) fn closed(alloc: Global, truth: bool) -> Normal
+pub(crate) fn closed(alloc: Global, truth: bool) -> LevelForm
     ensures { shape_of result ≡ closed_form truth }
 {
     if truth {
-        Normal::And(Items::new(alloc))
+        LevelForm::And(Items::new(alloc))
     } else {
-        Normal::Or(Items::new(alloc))
+        LevelForm::Or(Items::new(alloc))
     }
 }
 
 /// Both, or one of the two.
 #[tactic(auto, using(crate::proofs::Shapes::shape_and, crate::proofs::Shapes::shape_or))]
-pub(crate) fn either(alloc: Global, both: bool, a: Normal, b: Normal) -> Result<Normal, Memory>
+pub(crate) fn either(
+    alloc: Global,
+    both: bool,
+    a: LevelForm,
+    b: LevelForm,
+) -> Result<LevelForm, Memory>
     ensures { IfOk result (λ n. shape_of n ≡ either_by both (shape_of a) (shape_of b)) }
 {
     let mut parts = Items::new(alloc);
     parts.push(a)?;
     parts.push(b)?;
     if both {
-        Ok(Normal::And(parts))
+        Ok(LevelForm::And(parts))
     } else {
-        Ok(Normal::Or(parts))
+        Ok(LevelForm::Or(parts))
     }
 }
 
 /// Under one quantifier.
 #[tactic(auto, using(crate::proofs::Shapes::shape_forall, crate::proofs::Shapes::shape_exists))]
-pub(crate) fn quantified(alloc: Global, every: bool, inner: Normal) -> Result<Normal, Memory>
+pub(crate) fn quantified(alloc: Global, every: bool, inner: LevelForm) -> Result<LevelForm, Memory>
     ensures { IfOk result (λ n. shape_of n ≡ bind_one every (shape_of inner)) }
 {
     let inner = Boxed::new(alloc, inner)?;
     if every {
-        Ok(Normal::Forall(inner))
+        Ok(LevelForm::Forall(inner))
     } else {
-        Ok(Normal::Exists(inner))
+        Ok(LevelForm::Exists(inner))
     }
 }
 
 /// `a` where the test holds, else `b`; `untest` is the negation of `test`.
 pub(crate) fn choice(
     alloc: Global,
-    test: Normal,
-    untest: Normal,
-    a: Normal,
-    b: Normal,
-) -> Result<Normal, Memory>
+    test: LevelForm,
+    untest: LevelForm,
+    a: LevelForm,
+    b: LevelForm,
+) -> Result<LevelForm, Memory>
     ensures { IfOk result (λ n. shape_of n ≡ ite_form (shape_of test) (shape_of untest) (shape_of a) (shape_of b)) }
 {
     let first = either(alloc, false, untest, a)?;
@@ -79,22 +118,22 @@ pub(crate) fn choice(
 #[tactic(auto, using(crate::proofs::Shapes::shape_and, crate::proofs::Shapes::shape_exists))]
 pub(crate) fn between(
     alloc: Global,
-    low: Normal,
-    high: Normal,
-    inner: Normal,
-) -> Result<Normal, Memory>
+    low: LevelForm,
+    high: LevelForm,
+    inner: LevelForm,
+) -> Result<LevelForm, Memory>
     ensures { IfOk result (λ n. shape_of n ≡ there_is (each_of (part (shape_of low) (part (shape_of high) (part (shape_of inner) no_part))))) }
 {
     let mut parts = Items::new(alloc);
     parts.push(low)?;
     parts.push(high)?;
     parts.push(inner)?;
-    let inner = Boxed::new(alloc, Normal::And(parts))?;
-    Ok(Normal::Exists(inner))
+    let inner = Boxed::new(alloc, LevelForm::And(parts))?;
+    Ok(LevelForm::Exists(inner))
 }
 
 /// All parts, or one of them: one part stands for the whole.
-pub(crate) fn joined(all: bool, parts: Items<Normal>) -> Normal
+pub(crate) fn joined(all: bool, parts: Items<LevelForm>) -> LevelForm
     ensures { shape_of result ≡ joined_by all (shapes_of parts) }
 {
     if parts.len() == 1 {
@@ -105,7 +144,7 @@ pub(crate) fn joined(all: bool, parts: Items<Normal>) -> Normal
 }
 
 /// The only part.
-fn only(all: bool, parts: Items<Normal>) -> Normal
+fn only(all: bool, parts: Items<LevelForm>) -> LevelForm
     requires { length parts ≡ 1 }
     ensures { shape_of result ≡ joined_by all (shapes_of parts) }
 {
@@ -117,13 +156,13 @@ fn only(all: bool, parts: Items<Normal>) -> Normal
 }
 
 /// No part, or more than one.
-fn many(all: bool, parts: Items<Normal>) -> Normal
+fn many(all: bool, parts: Items<LevelForm>) -> LevelForm
     requires { length parts ≢ 1 }
     ensures { shape_of result ≡ joined_by all (shapes_of parts) }
 {
     if all {
-        Normal::And(parts)
+        LevelForm::And(parts)
     } else {
-        Normal::Or(parts)
+        LevelForm::Or(parts)
     }
 }

@@ -14,7 +14,7 @@ ghost use Rattle.norm_form.specs.Walk.{all_bound, wrapped as wrapped_form};
 
 use crate::branches::LEVELS;
 use crate::claim::literal;
-use crate::normal::{Normal, quantified};
+use crate::normal::{LevelForm, quantified};
 use lin_form::{Bound, FormFault};
 use lin_term::{Lit, Memory, Row, Sort};
 use lin_truth::{Term, VarSort};
@@ -55,7 +55,7 @@ pub(crate) fn truth_literal(
     sort: Sort,
     truth: bool,
     level: u32,
-) -> Result<Normal, FormFault>
+) -> Result<LevelForm, FormFault>
     ensures { IsBuilt (capped_maker.formed (lin_variable level ∷ truth_form level ∷ []) (capped_maker.signed truth sort (AtLeast (truth_form level).form))) result }
 {
     if level >= LEVELS {
@@ -93,8 +93,8 @@ pub(crate) fn wrapped(
     alloc: Global,
     every: bool,
     sorts: &[VarSort],
-    inner: Result<Normal, FormFault>,
-) -> Result<Normal, FormFault>
+    inner: Result<LevelForm, FormFault>,
+) -> Result<LevelForm, FormFault>
     ensures { (o : Option NormalTree) → IsBuilt o inner → IsBuilt (wrapped_form every (length sorts.now) o) result }
 {
     let mut formula = match inner {

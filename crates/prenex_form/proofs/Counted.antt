@@ -14,7 +14,8 @@ use Rattle.prenex_form.specs.Prenex.{quants, front_exists, front_forall, marks, 
 use Rattle.norm_form.specs.Load.{weigh, weigh_all, load}
 use Rattle.lin_form.specs.Kept.{within}
 use Rattle.norm_form.specs.Cap.{numbers, capped, keep}
-use Rattle.prenex_form.specs.Whole.{matrix_nodes, matrices_nodes, FormResult, a_problem, too_large, too_many_variables, number_past_cap, node_limit, variable_limit, form_of_goal, problem_if, node_rate, binder_rate, form_counted}
+use Rattle.norm_form.specs.Outcome.{node_limit, variable_limit, node_rate, binder_rate}
+use Rattle.prenex_form.specs.Whole.{matrix_nodes, matrices_nodes, FormResult, a_problem, too_large, too_many_variables, number_past_cap, form_of_goal, problem_if, form_counted}
 use Rattle.prenex_form.specs.Pass.{sum_of}
 use Rattle.prenex_form.proofs.Lengths.{quants_length, merge_sum}
 use Rattle.prenex_form.proofs.Truths.{goal_is_problem}

@@ -10,7 +10,7 @@ use Rattle.lin_term.specs.Linear.{rename, rename_terms, times, times_terms, plus
 use Rattle.lin_term.specs.Literal.{form_of, prim, neg, IsOf, rename_lit, minus_one}
 use Rattle.lin_term.specs.Wide.{first_past, coefficients, form_numbers, lit_numbers}
 use Rattle.lin_term.proofs.Negating.{negate_are, plus_none}
-use Rattle.dom_core.specs.Problem.{IsKept, AreKept}
+use Rattle.dom_core.specs.Problem.{HasNegations, HaveNegations}
 use Rattle.dom_core.proofs.Renaming.{renamed_prim, renamed_primitive}
 use Rattle.norm_form.specs.Normal.{Normal, one_lit, each_of, some_of, for_all, there_is, Normals, no_part, part, IsNormal, AreNormal}
 use Rattle.norm_form.proofs.Own.{EachOwn, AllOwn}
@@ -71,7 +71,7 @@ neg_renamed Int names (NotDivides d f) o a b = renamed_prim Int names (Divides d
 -- ---- the matrix
 
 mutual
-  pub put_kept : (n : Normal) (s : Sort) (d k : ℕ) (next names : List ℕ) → length names ≡ k → CanPut n d next names → IsNormal n s k → EachOwn n s → EachTidy n → EachNegated n s → IsKept (put n d next names) s
+  pub put_kept : (n : Normal) (s : Sort) (d k : ℕ) (next names : List ℕ) → length names ≡ k → CanPut n d next names → IsNormal n s k → EachOwn n s → EachTidy n → EachNegated n s → HasNegations (put n d next names) s
   put_kept (one_lit l) s d k next names e c o p a h = (
     (renamed_primitive s names l (o.0, p)).1,
     ap first_past (ap lit_numbers (neg_renamed s names l o.0 a (renamed_are_terms names (form_of l).terms c.1 a c.0)) ∙ renamed_numbers names (neg s l)) ∙ h,
@@ -83,7 +83,7 @@ mutual
   put_kept (there_is n) s d k next names e c o p a h =
       put_kept n s d (suc k) (bump next d) (names ++ get_or next d 0 ∷ []) (push_count names (get_or next d 0) k e) c o p a h
 
-  pub put_all_kept : (ns : Normals) (s : Sort) (d k : ℕ) (next names : List ℕ) → length names ≡ k → CanPutAll ns d next names → AreNormal ns s k → AllOwn ns s → AllTidy ns → AllNegated ns s → AreKept (put_parts ns d next names) s
+  pub put_all_kept : (ns : Normals) (s : Sort) (d k : ℕ) (next names : List ℕ) → length names ≡ k → CanPutAll ns d next names → AreNormal ns s k → AllOwn ns s → AllTidy ns → AllNegated ns s → HaveNegations (put_parts ns d next names) s
   put_all_kept no_part s d k next names e c o p a h = tt
   put_all_kept (part n ns) s d k next names e c o p a h =
       (put_kept n s d k next names e c.0 o.0 p.0 a.0 h.0, put_all_kept ns s d k (taken n d next) names e c.1 o.1 p.1 a.1 h.1)

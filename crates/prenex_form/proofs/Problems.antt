@@ -9,21 +9,19 @@ use Rattle.dom_core.specs.declared.Quant.{Quant}
 use Rattle.dom_core.specs.declared.Quant.TheVariants.{Exists}
 use Rattle.dom_core.specs.Game.{Matrix, IsMatrix, Problem, TrueP}
 use Rattle.dom_core.specs.View.{matrix_of}
-use Rattle.dom_core.specs.Problem.{problem_of, IsKept, IsProblem, IsTrueProblem}
+use Rattle.dom_core.specs.Problem.{problem_of, HasNegations, IsProblem, IsTrueProblem}
 use Rattle.lin_form.specs.declared.FormFault.{FormFault}
 use Rattle.lin_form.specs.declared.FormFault.TheVariants as form_faults
 use Rattle.lin_form.specs.Kept.{within}
 use Rattle.lin_truth.specs.declared.term.VarSort.{VarSort}
-use Rattle.lin_truth.specs.declared.term.Term.{Term as Written}
 use Rattle.lin_truth.specs.Term.{Term, exists_of}
+use Rattle.lin_truth.specs.Goal.{Goal}
 use Rattle.lin_truth.specs.View.{tree_of}
 use Rattle.lin_truth.specs.Truth.{True, Same}
 use Rattle.lin_truth.specs.Formed.{IsFormula, append_all}
 use Rattle.norm_form.specs.Normal.{Normal, IsNormal}
-use Rattle.norm_form.specs.declared.Rate.{Rate}
 use Rattle.norm_form.specs.Load.{weigh, load}
 use Rattle.norm_form.specs.Cap.{numbers, capped}
-use Rattle.norm_form.specs.View.{IsBuilt}
 use Rattle.norm_form.proofs.Capped.{is_there, capped_is, capped_there}
 use Rattle.norm_form.proofs.Fitting.{goal_fits}
 use Rattle.norm_form.proofs.Loads.{norm_load}
@@ -31,8 +29,9 @@ use Rattle.norm_form.proofs.Own.{EachOwn, normal_own}
 use Rattle.norm_form.proofs.Within.{EachWithin, normal_within}
 use Rattle.prenex_form.specs.Prenex.{prenex, prenex_of}
 use Rattle.prenex_form.specs.Pass.{starts, sum_of, EachTidy}
-use Rattle.prenex_form.specs.Whole.{FormResult, a_problem, too_large, too_many_variables, node_limit, variable_limit, problem_if, node_rate, binder_rate, form_of_goal}
-use Rattle.prenex_form.specs.Outcome.{IsFault, IsCounted, written}
+use Rattle.norm_form.specs.Outcome.{node_limit, variable_limit, node_rate, binder_rate, IsLevelForm}
+use Rattle.prenex_form.specs.Whole.{FormResult, a_problem, too_large, too_many_variables, problem_if, form_of_goal}
+use Rattle.prenex_form.specs.Outcome.{IsFault, written}
 use Rattle.prenex_form.proofs.Counted.{form_is_counted, blocks_are}
 use Rattle.prenex_form.proofs.Fairness.{EachFair, normal_fair, negated_within}
 use Rattle.prenex_form.proofs.Handing.{whole_put}
@@ -68,19 +67,12 @@ pub built_form : (s : Sort) (consts : List VarSort) (body : Term) → goal_load 
 built_form s consts body h k =
     many_form s consts body h ∙ ap (λ (b : Bool). cond b (problem_if (capped s consts body)) too_many_variables) (le-leb (goal_binders consts body) variable_limit k)
 
--- the fault that the counts show is the goal's
-pub counted_form : (s : Sort) (consts : List VarSort) (body : Term) (e : FormFault) → IsCounted (goal_load consts body) (goal_binders consts body) (Some e) → IsFault (form_of_goal s consts body) e
-counted_form s consts body form_faults.Size h = large_form s consts body h
-counted_form s consts body form_faults.Variables h = wide_form s consts body h.0 h.1
-counted_form s consts body form_faults.Number h = absurd h
-counted_form s consts body form_faults.Memory h = absurd h
-
--- no normal form, no problem
-pub fault_form : (r : FormResult) (x : Option Normal) (e : FormFault) → r ≡ problem_if x → IsBuilt x (Err e) → IsFault r e
-fault_form r x form_faults.Size h b = absurd b
-fault_form r x form_faults.Variables h b = absurd b
-fault_form r x form_faults.Number h b = h ∙ ap problem_if b
-fault_form r x form_faults.Memory h b = tt
+-- without a form there is no problem
+pub level_fault : (g : Goal) (e : FormFault) → IsLevelForm g (Err e) → IsFault (form_of_goal g.sort g.consts (tree_of g.body)) e
+level_fault g form_faults.Size h = large_form g.sort g.consts (tree_of g.body) h
+level_fault g form_faults.Variables h = wide_form g.sort g.consts (tree_of g.body) h.0 h.1
+level_fault g form_faults.Number h = built_form g.sort g.consts (tree_of g.body) h.0 h.1 ∙ ap problem_if h.2
+level_fault g form_faults.Memory h = tt
 
 -- ---- what is known of the normal form
 
@@ -91,7 +83,7 @@ pub form_few : (s : Sort) (consts : List VarSort) (body : Term) (n : Normal) →
 form_few s consts body n h k =
     let e : weigh n binder_rate ≡ goal_binders consts body = ap (λ (m : Normal). weigh m binder_rate) (capped_is s consts body n h) ∙ norm_load (exists_of consts body) s true [] 0 binder_rate in omega arith
 
-form_kept : (s : Sort) (consts : List VarSort) (body : Term) (n : Normal) → IsFormula body s (append_all [] consts) → capped s consts body ≡ Some n → weigh n binder_rate ≤ 1024 → EachTidy n → IsKept (prenex n 0).body s
+form_kept : (s : Sort) (consts : List VarSort) (body : Term) (n : Normal) → IsFormula body s (append_all [] consts) → capped s consts body ≡ Some n → weigh n binder_rate ≤ 1024 → EachTidy n → HasNegations (prenex n 0).body s
 form_kept s consts body n f h k a =
     let e = capped_is s consts body n h in
     let o : IsNormal n s 0 = form_closed s consts body n f h in
@@ -100,7 +92,7 @@ form_kept s consts body n f h k a =
     let inside = subst (λ (m : Normal). EachWithin m) (sym e) (normal_within s consts body w) in
     let fair = subst (λ (m : Normal). EachFair m s) (sym e) (normal_fair s consts body w) in
     let b = blocks_are n 0 in
-    subst (λ (m : Matrix). IsKept m s) (whole_put n s o)
+    subst (λ (m : Matrix). HasNegations m s) (whole_put n s o)
     (put_kept n s 0 0 (starts 0 (prenex n 0).blocks) [] refl (starting_put n s o (omega arith)) o own a (negated_within n s 0 o own a inside fair))
 
 -- ---- the problem that is written
@@ -119,19 +111,10 @@ written_kept s consts body n qs m f h k a e g =
     let z : 0 + size (prenex n 0).blocks ≡ length qs = (let y = ap length e in omega arith) in (
       omega arith,
       subst (λ (k : Matrix). IsMatrix k s (length qs)) (sym g) (subst (λ (i : ℕ). IsMatrix (prenex n 0).body s i) z (prenex_fits n s 0 o)),
-      subst (λ (k : Matrix). IsKept k s) (sym g) (form_kept s consts body n f h k a),
+      subst (λ (k : Matrix). HasNegations k s) (sym g) (form_kept s consts body n f h k a),
     )
 
 pub written_true : (s : Sort) (consts : List VarSort) (body : Term) (n : Normal) (qs : List Quant) (m : Tree) → IsFormula body s (append_all [] consts) → capped s consts body ≡ Some n → qs ≡ (prenex_of n).prefix → matrix_of m ≡ (prenex_of n).matrix → Same (True (exists_of consts body) s []) (IsTrueProblem s (written qs m))
 written_true s consts body n qs m f h e g =
     subst (λ (P : Problem). Same (True (exists_of consts body) s []) (TrueP s P)) (ap prenex_of (sym (capped_is s consts body n h)) ∙ same_problem qs m n e g)
     (goal_is_problem s consts body f)
-
--- ---- the counts of the body are the counts under its constants
-
-append_all_is : (vs us : List VarSort) → append_all vs us ≡ vs ++ us
-append_all_is vs [] = sym (append-nil vs)
-append_all_is vs (u ∷ us) = append_all_is (vs ++ u ∷ []) us ∙ append_assoc vs (u ∷ []) us
-
-pub same_load : (b g : Written) (r : Rate) (cs ds : List VarSort) → b ≡ g → cs ≡ ds → load (tree_of b) r cs ≡ load (tree_of g) r (append_all [] ds)
-same_load b g r cs ds e f = ap₂ (λ (x : Written) (vs : List VarSort). load (tree_of x) r vs) e (f ∙ sym (append_all_is [] ds))

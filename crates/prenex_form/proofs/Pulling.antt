@@ -8,28 +8,11 @@ use Rattle.dom_core.specs.Game.{Matrix, lit, all, some, Matrices, none, more, Ho
 use Rattle.dom_core.specs.declared.Quant.{Quant}
 use Rattle.dom_core.specs.declared.Quant.TheVariants.{Exists, Forall}
 use Rattle.lin_term.proofs.Dots.{length-extend}
-use Rattle.lin_term.proofs.Holding.{from_names}
 use Rattle.dom_core.proofs.Contrary.{extend_point, stable_true, stable_fail}
-use Rattle.dom_core.proofs.Renaming.{matrix_to_names, all_to_names, fail_from_names}
+use Rattle.dom_core.proofs.Renaming.{matrix_to_names, all_to_names, fail_from_names, matrix_from_names, all_from_names, fail_to_names}
 use Rattle.norm_form.proofs.Growing.{State, state_push, state_grows, grows_extend}
 use Rattle.lin_term.proofs.Dots.{Agree}
 use Rattle.prenex_form.specs.Prenex.{Mark, left, right, left_names, right_names}
-
-mutual
-  pub matrix_from_names : (m : Matrix) (s : Sort) (names : List ℕ) (e p : Point) → IsPoint s e → IsPoint s p → Agree names e p → IsMatrix m s (length names) → HoldsIn (rename_matrix m names) p → HoldsIn m e
-  matrix_from_names (lit l) s names e p ie ip a o h = from_names s names e p ie ip a l o.0 o.1 h
-  matrix_from_names (all ms) s names e p ie ip a o h = all_from_names ms s names e p ie ip a o h
-  matrix_from_names (some ms) s names e p ie ip a o h = λ k. h (fail_to_names ms s names e p ie ip a o k)
-
-  pub all_from_names : (ms : Matrices) (s : Sort) (names : List ℕ) (e p : Point) → IsPoint s e → IsPoint s p → Agree names e p → AreMatrices ms s (length names) → AllHold (rename_matrices ms names) p → AllHold ms e
-  all_from_names none s names e p ie ip a o h = tt
-  all_from_names (more m ms) s names e p ie ip a o h =
-      (matrix_from_names m s names e p ie ip a o.0 h.0, all_from_names ms s names e p ie ip a o.1 h.1)
-
-  pub fail_to_names : (ms : Matrices) (s : Sort) (names : List ℕ) (e p : Point) → IsPoint s e → IsPoint s p → Agree names e p → AreMatrices ms s (length names) → AllFail ms e → AllFail (rename_matrices ms names) p
-  fail_to_names none s names e p ie ip a o h = tt
-  fail_to_names (more m ms) s names e p ie ip a o h =
-      (λ k. h.0 (matrix_from_names m s names e p ie ip a o.0 k), fail_to_names ms s names e p ie ip a o.1 h.1)
 
 -- ---- the marks of a shuffle, and its two parts
 

@@ -8,7 +8,7 @@ use Rattle.lin_term.specs.Literal.{form_of}
 use Rattle.dom_core.specs.declared.Quant.TheVariants.{Exists}
 use Rattle.norm_form.specs.Normal.{Normal, one_lit, each_of, some_of, for_all, there_is, Normals, no_part, part, IsNormal, AreNormal}
 use Rattle.norm_form.specs.Load.{weigh, weigh_all}
-use Rattle.prenex_form.specs.Whole.{binder_rate}
+use Rattle.norm_form.specs.Outcome.{binder_rate}
 use Rattle.prenex_form.specs.Prenex.{Mark, left, right, merge, marks, prenex, prenex_parts}
 use Rattle.prenex_form.specs.Pass.{leads, under_all, bump, taken, taken_parts, starts, from, places, sum_of, IsPath, HasRoom, HaveRoom, CanPut, CanPutAll}
 use Rattle.prenex_form.proofs.Handing.{lefts_of, rights_of, left_places, right_behind, after_left, all_own, there_own, push_count, starts_places}

@@ -1,5 +1,5 @@
 -- The problem of a goal, or why there is none.
-use Rattle.std.specs.Prelude.{ℕ, suc, ◌+◌, ◌^◌, nat_le, List, [], length, Bool, cond}
+use Rattle.std.specs.Prelude.{ℕ, suc, ◌+◌, nat_le, List, [], length, Bool, cond}
 use Rattle.std.specs.Prelude.{Option, None, Some}
 use Rattle.lin_term.specs.declared.Sort.{Sort}
 use Rattle.dom_core.specs.Game.{Matrix, lit, all, some, Matrices, none, more, Problem}
@@ -8,8 +8,8 @@ use Rattle.lin_truth.specs.declared.term.VarSort.{VarSort}
 use Rattle.lin_truth.specs.Term.{Term, exists_of}
 use Rattle.norm_form.specs.Norm.{normal_of}
 use Rattle.prenex_form.specs.Prenex.{prenex_of}
-use Rattle.norm_form.specs.declared.Rate.{Rate}
 use Rattle.norm_form.specs.Load.{load}
+use Rattle.norm_form.specs.Outcome.{node_limit, variable_limit, node_rate, binder_rate}
 use Rattle.lin_form.specs.Kept.{within}
 use Rattle.norm_form.specs.Cap.{numbers, capped}
 
@@ -29,12 +29,6 @@ pub data FormResult : Type 0 where
   too_many_variables : FormResult
   number_past_cap : FormResult
 
-abbrev pub node_limit : ℕ
-node_limit = 2 ^ 20
-
-abbrev pub variable_limit : ℕ
-variable_limit = 2 ^ 10
-
 -- of the problem, and of all numbers formed on the way to it: Size, then Variables, then Number
 abbrev pub form_by : Problem → Bool → FormResult
 form_by P fits =
@@ -50,12 +44,6 @@ form_of_goal s consts body = form_by (prenex_of (normal_of s consts body)) (with
 abbrev pub problem_if : Option Normal → FormResult
 problem_if None = number_past_cap
 problem_if (Some n) = a_problem (prenex_of n)
-
-abbrev pub node_rate : Rate
-node_rate = record { node = 1; binder = 0 }
-
-abbrev pub binder_rate : Rate
-binder_rate = record { node = 0; binder = 1 }
 
 abbrev pub form_counted : Sort → List VarSort → Term → FormResult
 form_counted s consts body =

@@ -5,11 +5,11 @@ ghost use Rattle.dom_core.specs.View.{matrix_of, matrices_of};
 ghost use Rattle.norm_form.specs.View.{shape_of, shapes_of};
 ghost use Rattle.prenex_form.specs.Pass.{taken, taken_parts, put, put_parts, HasRoom, HaveRoom, CanPut, CanPutAll, EachTidy, AllTidy};
 
-use crate::rename::renamed;
+use crate::rename::at_places;
 use crate::tally::{bump, under_all};
 use dom_core::Matrix;
 use lin_term::Memory;
-use norm_form::Normal;
+use norm_form::LevelForm;
 use sqlite_items::Items;
 use std::alloc::Global;
 
@@ -18,7 +18,7 @@ use std::alloc::Global;
 #[cycle(place)]
 pub(crate) fn place(
     alloc: Global,
-    form: &Normal,
+    form: &LevelForm,
     depth: usize,
     next: &mut Items<u32>,
     names: &mut Items<u32>,
@@ -31,29 +31,29 @@ pub(crate) fn place(
     ensures tidy { IfOk result (λ m. EachTidy (shape_of form.now)) }
 {
     match form {
-        Normal::Lit(lit) => Ok(Matrix::Lit(renamed(alloc, lit, names.as_slice())?)),
-        Normal::And(parts) => Ok(Matrix::And(place_all(
+        LevelForm::Lit(lit) => Ok(Matrix::Lit(at_places(alloc, lit, names.as_slice())?)),
+        LevelForm::And(parts) => Ok(Matrix::And(place_all(
             alloc,
             parts.as_slice(),
             depth,
             next,
             names,
         )?)),
-        Normal::Or(parts) => Ok(Matrix::Or(place_all(
+        LevelForm::Or(parts) => Ok(Matrix::Or(place_all(
             alloc,
             parts.as_slice(),
             depth,
             next,
             names,
         )?)),
-        Normal::Forall(inner) => {
+        LevelForm::Forall(inner) => {
             names.push(bump(next, depth + 1)?)?;
             let below = under_all(inner.get(), depth);
             let matrix = place(alloc, inner.get(), below, next, names)?;
             names.pop();
             Ok(matrix)
         }
-        Normal::Exists(inner) => {
+        LevelForm::Exists(inner) => {
             names.push(bump(next, depth)?)?;
             let matrix = place(alloc, inner.get(), depth, next, names)?;
             names.pop();
@@ -66,7 +66,7 @@ pub(crate) fn place(
 #[cycle(place)]
 fn place_all(
     alloc: Global,
-    parts: &[Normal],
+    parts: &[LevelForm],
     depth: usize,
     next: &mut Items<u32>,
     names: &mut Items<u32>,

@@ -6,14 +6,14 @@ ghost use Rattle.norm_form.specs.Load.{weigh};
 ghost use Rattle.norm_form.specs.View.{shape_of};
 ghost use Rattle.prenex_form.specs.Pass.{IsClosed, EachTidy};
 ghost use Rattle.prenex_form.specs.Prenex.{prenex_of};
-ghost use Rattle.prenex_form.specs.Whole.{binder_rate};
+ghost use Rattle.norm_form.specs.Outcome.{binder_rate};
 
 use crate::place::place;
 use crate::prefix::{prefix_of, starts_of};
 use crate::tally::count;
 use dom_core::{Matrix, Quant};
 use lin_term::Memory;
-use norm_form::Normal;
+use norm_form::LevelForm;
 use sqlite_items::Items;
 use std::alloc::Global;
 
@@ -25,7 +25,7 @@ pub(crate) struct Prenex {
 }
 
 /// The form with its quantifiers in front, in two passes over it.
-pub(crate) fn prenexed(alloc: Global, form: &Normal) -> Result<Prenex, Memory>
+pub(crate) fn prenexed(alloc: Global, form: &LevelForm) -> Result<Prenex, Memory>
     requires closed { IsClosed (shape_of form.now) }
     requires few { weigh (shape_of form.now) binder_rate ≤ 1024 }
     ensures prefix { IfOk result (λ p. p.prefix ≡ (prenex_of (shape_of form.now)).prefix) }

@@ -1,79 +1,32 @@
 //! The problem of a goal.
 
-ghost use Rattle.std.specs.Prelude.{◌≡◌, IfOk, IfErr, Err, min};
-ghost use Rattle.norm_form.specs.Load.{limit};
+ghost use Rattle.std.specs.Prelude.{◌≡◌, IfOk, IfErr, Err};
 ghost use Rattle.lin_truth.specs.Goal.{IsTrueGoal};
 ghost use Rattle.lin_truth.specs.Truth.{Same};
 ghost use Rattle.dom_core.specs.Problem.{IsProblem, IsTrueProblem, problem_of as seen_problem};
-ghost use Rattle.prenex_form.specs.Outcome.{IsForm, IsFault, IsCounted, form, nodes_of, variables_of, written};
+ghost use Rattle.prenex_form.specs.Outcome.{IsForm, IsFault, form, written};
 ghost use Rattle.prenex_form.specs.Whole.{a_problem};
 
 use crate::prenexed::{Prenex, prenexed};
 use dom_core::{Domain, Problem};
 use lin_form::FormFault;
-use lin_term::Memory;
 use lin_truth::Goal;
-use norm_form::{LIMIT, Rate, formula_count, normal_form};
+use norm_form::goal_form;
 use ss_names::{FaultKind, ScriptFault};
 use std::alloc::Global;
 
-/// Counts the nodes of the matrix.
-const NODES: Rate = Rate { node: 1, binder: 0 };
-
-/// Counts the variables of the prefix.
-const BINDERS: Rate = Rate { node: 0, binder: 1 };
-
-/// The greatest number of nodes of a matrix.
-const MOST_NODES: u64 = 1_048_576;
-
-/// The greatest number of variables of a prefix.
-const MOST_VARIABLES: u64 = 1_024;
-
-/// The nodes of the matrix, up to the limit of counts.
-fn node_count(alloc: Global, goal: &Goal) -> Result<u64, Memory>
-    ensures { IfOk result (λ n. n ≡ min limit (nodes_of goal.now)) }
-{
-    formula_count(alloc, goal.body(), NODES, goal.consts())
-}
-
-/// The variables of the prefix, up to the limit of counts.
-fn variable_count(alloc: Global, goal: &Goal) -> Result<u64, Memory>
-    ensures { IfOk result (λ n. n ≡ min limit (variables_of goal.now)) }
-{
-    let bound = formula_count(alloc, goal.body(), BINDERS, goal.consts())?;
-    let consts = (goal.consts().len() as u64).min(LIMIT);
-    Ok((consts + bound).min(LIMIT))
-}
-
-/// The fault that the counts show; nodes come first.
-fn counted_fault(alloc: Global, goal: &Goal) -> Result<Option<FormFault>, Memory>
-    ensures { IfOk result (λ fault. IsCounted (nodes_of goal.now) (variables_of goal.now) fault) }
-{
-    if node_count(alloc, goal)? > MOST_NODES {
-        return Ok(Some(FormFault::Size));
-    }
-    if variable_count(alloc, goal)? > MOST_VARIABLES {
-        return Ok(Some(FormFault::Variables));
-    }
-    Ok(None)
-}
-
-/// The prefix and the matrix of a goal, or why there are none. Nodes and variables are counted before anything is built.
+/// The prefix and the matrix of a goal, or why there are none.
 pub(crate) fn goal_prenex(alloc: Global, goal: &Goal) -> Result<Prenex, FormFault>
     ensures form { IfOk result (λ p. form goal.now ≡ a_problem (seen_problem (written p.prefix p.matrix))) }
     ensures kept { IfOk result (λ p. IsProblem goal.now.sort (written p.prefix p.matrix)) }
     ensures truth { IfOk result (λ p. Same (IsTrueGoal goal.now) (IsTrueProblem goal.now.sort (written p.prefix p.matrix))) }
     ensures fault { IfErr result (λ e. IsFault (form goal.now) e) }
 {
-    match counted_fault(alloc, goal)? {
-        Some(fault) => return Err(fault),
-        None => {}
-    }
-    let normal = match normal_form(alloc, goal.sort(), goal.consts(), goal.body()) {
-        Ok(normal) => normal,
+    let form = match goal_form(alloc, goal) {
+        Ok(form) => form,
         Err(fault) => return Err(fault),
     };
-    Ok(prenexed(alloc, &normal)?)
+    Ok(prenexed(alloc, &form)?)
 }
 
 /// The fault at the place of the goal.

@@ -6,26 +6,26 @@ ghost use Rattle.norm_form.specs.View.{shape_of, shapes_of};
 ghost use Rattle.prenex_form.specs.Pass.{leads as leads_of, any_leads as any_leads_of, under_all as under_all_of, bump as bump_of, taken, taken_parts, HasRoom, HaveRoom};
 
 use lin_term::Memory;
-use norm_form::Normal;
+use norm_form::LevelForm;
 use sqlite_items::Items;
 
 /// Whether the prefix of a form begins with an Exists block.
 #[cycle(leads)]
-fn leads(form: &Normal) -> bool
+fn leads(form: &LevelForm) -> bool
     ensures { result ≡ leads_of (shape_of form.now) }
 {
     match form {
-        Normal::Lit(_) => false,
-        Normal::And(parts) => any_leads(parts.as_slice()),
-        Normal::Or(parts) => any_leads(parts.as_slice()),
-        Normal::Forall(_) => false,
-        Normal::Exists(_) => true,
+        LevelForm::Lit(_) => false,
+        LevelForm::And(parts) => any_leads(parts.as_slice()),
+        LevelForm::Or(parts) => any_leads(parts.as_slice()),
+        LevelForm::Forall(_) => false,
+        LevelForm::Exists(_) => true,
     }
 }
 
 /// Whether one of the parts does.
 #[cycle(leads)]
-fn any_leads(parts: &[Normal]) -> bool
+fn any_leads(parts: &[LevelForm]) -> bool
     ensures { result ≡ any_leads_of (shapes_of parts.now) }
 {
     for part in parts {
@@ -37,7 +37,7 @@ fn any_leads(parts: &[Normal]) -> bool
 }
 
 /// Where the blocks of a form begin that stands under a universal variable of block `depth + 1`.
-pub(crate) fn under_all(form: &Normal, depth: usize) -> usize
+pub(crate) fn under_all(form: &LevelForm, depth: usize) -> usize
     requires { depth ≤ 4096 }
     ensures { result ≡ under_all_of (shape_of form.now) depth }
 {
@@ -60,20 +60,20 @@ pub(crate) fn bump(counts: &mut Items<u32>, at: usize) -> Result<u32, Memory>
 
 /// Counts the variables of a form whose blocks begin at `depth`.
 #[cycle(count)]
-pub(crate) fn count(form: &Normal, depth: usize, sizes: &mut Items<u32>) -> Result<(), Memory>
+pub(crate) fn count(form: &LevelForm, depth: usize, sizes: &mut Items<u32>) -> Result<(), Memory>
     requires { HasRoom (shape_of form.now) depth sizes.old }
     ensures { OnOk result (sizes.new ≡ taken (shape_of form.now) depth sizes.old) }
 {
     match form {
-        Normal::Lit(_) => Ok(()),
-        Normal::And(parts) => count_all(parts.as_slice(), depth, sizes),
-        Normal::Or(parts) => count_all(parts.as_slice(), depth, sizes),
-        Normal::Forall(inner) => {
+        LevelForm::Lit(_) => Ok(()),
+        LevelForm::And(parts) => count_all(parts.as_slice(), depth, sizes),
+        LevelForm::Or(parts) => count_all(parts.as_slice(), depth, sizes),
+        LevelForm::Forall(inner) => {
             bump(sizes, depth + 1)?;
             let below = under_all(inner.get(), depth);
             count(inner.get(), below, sizes)
         }
-        Normal::Exists(inner) => {
+        LevelForm::Exists(inner) => {
             bump(sizes, depth)?;
             count(inner.get(), depth, sizes)
         }
@@ -82,7 +82,7 @@ pub(crate) fn count(form: &Normal, depth: usize, sizes: &mut Items<u32>) -> Resu
 
 /// Counts the variables of the parts, from left to right.
 #[cycle(count)]
-fn count_all(parts: &[Normal], depth: usize, sizes: &mut Items<u32>) -> Result<(), Memory>
+fn count_all(parts: &[LevelForm], depth: usize, sizes: &mut Items<u32>) -> Result<(), Memory>
     requires { HaveRoom (shapes_of parts.now) depth sizes.old }
     ensures { OnOk result (sizes.new ≡ taken_parts (shapes_of parts.now) depth sizes.old) }
 {

@@ -11,7 +11,7 @@ use Rattle.lin_term.specs.Wide.{first_past, lit_numbers, form_numbers}
 use Rattle.lin_term.proofs.Capping.{past-head}
 use Rattle.lin_term.proofs.Lowest.{prim_is_primitive}
 use Rattle.dom_core.specs.Game.{lit, IsMatrix}
-use Rattle.dom_core.specs.Problem.{IsKept}
+use Rattle.dom_core.specs.Problem.{HasNegations}
 use Rattle.dom_core.proofs.Renaming.{neg_is_matrix, renamed_primitive}
 use Rattle.lose_system.specs.Written.{WrittenSystem}
 use Rattle.cube_rules.specs.Facts.{literal_of, literal_at}
@@ -53,7 +53,7 @@ primable_renamed Int names (Divides d f) p = p
 primable_renamed Int names (NotDivides d f) p = p
 
 -- a literal of a path
-pub made_known : (s : Sort) (names : List ℕ) (l x : Lit) (n : ℕ) → x ≡ rename_lit names (neg s l) → IsMatrix (lit l) s n → IsKept (lit l) s → IsKnown s x
+pub made_known : (s : Sort) (names : List ℕ) (l x : Lit) (n : ℕ) → x ≡ rename_lit names (neg s l) → IsMatrix (lit l) s n → HasNegations (lit l) s → IsKnown s x
 made_known s names l x n e m k =
     let o = (neg_is_matrix (lit l) s n m).0 in
     subst (λ (y : Lit). IsKnown s y) (sym e)

@@ -45,7 +45,7 @@ put_primitive x a t l h p =
     cond_both (occurs (form_of l).terms x) (prim Int (put_raw x a t l)) l (λ (k : Lit). IsPrimitive Int k)
     (λ e. prim_is_primitive Int (put_raw x a t l) (raw_of x a t l h p.0)) (λ e. p)
 
-put_all_primitive : (x a : ℕ) (t : Form) (c : List Lit) → 1 ≤ a → AllPrimitive c → AllPrimitive (put_all x a t c)
+put_all_primitive : (x a : ℕ) (t : Form) (c : List Lit) → 1 ≤ a → AllPrimitive c → AllPrimitive (put_all Int x a t c)
 put_all_primitive x a t [] h p = tt
 put_all_primitive x a t (l ∷ ls) h p = (put_primitive x a t l h p.0, put_all_primitive x a t ls h p.1)
 
@@ -80,7 +80,7 @@ lower_size x (NotDivides d f) e = absurd (cc)
 lower_primitive : (x : ℕ) (before : List Lit) (l : Lit) (after : List Lit) (k : ℕ) → 1 ≤ size_at x l → AllPrimitive before → AllPrimitive after → AllPrimitive (lower_case x before l after k)
 lower_primitive x before l after k h a b =
     let t = above_bound x l k in
-    all-append (put_all x (size_at x l) t before) (prim Int (Divides (size_at x l) t) ∷ put_all x (size_at x l) t after)
+    all-append (put_all Int x (size_at x l) t before) (prim Int (Divides (size_at x l) t) ∷ put_all Int x (size_at x l) t after)
     (put_all_primitive x (size_at x l) t before h a)
     (prim_is_primitive Int (Divides (size_at x l) t) (modulus_one (size_at x l) t h), put_all_primitive x (size_at x l) t after h b)
 

@@ -8,7 +8,11 @@ pub mod LeastLemmas
 pub mod KnownLemmas
 pub mod StackLemmas
 pub mod SettleLemmas
-pub mod CheckLemmas
+pub mod LearnLemmas
 pub mod Checking
+pub mod Walk
+pub mod WritableLemmas
+pub mod CheckLemmas
 pub mod Refuted
 pub mod FirstBad
+pub mod Splicing

@@ -25,7 +25,7 @@ use Rattle.proof_rules.specs.Rules.{def_line}
 use Rattle.proof_rules.specs.declared.fact.Fact.{Fact}
 use Rattle.proof_rules.specs.declared.fact.Next.{Next}
 use Rattle.proof_rules.specs.declared.fact.Next.TheVariants.{Goes, Closed}
-use Rattle.proof_rules.specs.Held.{fact_of, context_of, next_of, IsKnown, IsFact, AreFacts, IsNext, Leaves}
+use Rattle.proof_rules.specs.Held.{fact_of, context_of, next_of, IsKnown, IsFact, AreFacts, IsKeptNext, Leaves}
 use Rattle.proof_rules.proofs.FactLemmas.{fact_at, seen_at}
 
 pub some_same : {A : Type 0} (x y : A) → Some x ≡ Some y → x ≡ y
@@ -38,8 +38,8 @@ no_next n e = cc
 pub breaks : (s : Sort) (w : WrittenSystem) (c : Context) (rule : Option (List Context)) → rule ≡ None → Leaves s w c rule None
 breaks s w c rule e = record { contexts = sym e; kept = λ n h. absurd (no_next n h) }
 
-pub leaves : (s : Sort) (w : WrittenSystem) (c : Context) (rule : Option (List Context)) (n : Next) → rule ≡ Some (next_of s w c n) → IsNext s w n → Leaves s w c rule (Some n)
-leaves s w c rule n e k = record { contexts = sym e; kept = λ m h. subst (λ (x : Next). IsNext s w x) (some_same n m h) k }
+pub leaves : (s : Sort) (w : WrittenSystem) (c : Context) (rule : Option (List Context)) (n : Next) → rule ≡ Some (next_of s w c n) → IsKeptNext s w n → Leaves s w c rule (Some n)
+leaves s w c rule n e k = record { contexts = sym e; kept = λ m h. subst (λ (x : Next). IsKeptNext s w x) (some_same n m h) k }
 
 pub seen : (s : Sort) (w : WrittenSystem) (fs : List Fact) (i : ℕ) (o : Option Fact) → o ≡ slice_get fs i → slice_get (map (fact_of s w) fs) i ≡ option_map (fact_of s w) o
 seen s w fs i o e = seen_at s w fs i ∙ ap (option_map (fact_of s w)) (sym e)
@@ -71,7 +71,7 @@ pub cases_none : (s : Sort) (w : WrittenSystem) (bare : Bool) (n f k : ℕ) (fs 
 cases_none s w bare n f k fs e =
     breaks s w (context_of s w bare fs) (cube_step s n (context_of s w bare fs) (step.Cases f k)) (cases_rule s w bare n f k fs None e)
 
-pub cases_found : (s : Sort) (w : WrittenSystem) (bare : Bool) (n f k : ℕ) (fs : List Fact) (x : Fact) (o : Option Next) → Some x ≡ slice_get fs f → option_map (next_of s w (context_of s w bare fs)) o ≡ option_and_then (cases_line (context_of s w bare fs) k) (or_children (fact_of s w x)) → AreFacts s w fs → (IsFact s w x → (m : Next) → o ≡ Some m → IsNext s w m) → Leaves s w (context_of s w bare fs) (cube_step s n (context_of s w bare fs) (step.Cases f k)) o
+pub cases_found : (s : Sort) (w : WrittenSystem) (bare : Bool) (n f k : ℕ) (fs : List Fact) (x : Fact) (o : Option Next) → Some x ≡ slice_get fs f → option_map (next_of s w (context_of s w bare fs)) o ≡ option_and_then (cases_line (context_of s w bare fs) k) (or_children (fact_of s w x)) → AreFacts s w fs → (IsFact s w x → (m : Next) → o ≡ Some m → IsKeptNext s w m) → Leaves s w (context_of s w bare fs) (cube_step s n (context_of s w bare fs) (step.Cases f k)) o
 cases_found s w bare n f k fs x o e p a q = record {
   contexts = p ∙ sym (cases_rule s w bare n f k fs (Some x) e);
   kept = q (fact_at s w fs f x a (sym e));

@@ -24,7 +24,7 @@ use Rattle.cube_rules.proofs.Comparing.{primitive_is}
 use Rattle.proof_rules.specs.declared.fact.Fact.{Fact}
 use Rattle.proof_rules.specs.declared.fact.Next.{Next}
 use Rattle.proof_rules.specs.declared.fact.Next.TheVariants.{Goes}
-use Rattle.proof_rules.specs.Held.{fact_of, next_of, IsKnown, IsFact, IsNext, Leaves}
+use Rattle.proof_rules.specs.Held.{fact_of, next_of, IsKnown, IsFact, IsKeptNext, Leaves}
 use Rattle.proof_rules.proofs.FactLemmas.{primable_within}
 use Rattle.proof_rules.proofs.LineLemmas.{some_same, breaks, leaves}
 
@@ -72,7 +72,7 @@ pub sum_broken : (s : Sort) (w : WrittenSystem) (c : Context) (n f h : ℕ) (p q
 sum_broken s w c n f h p q g a b ea eb e =
     breaks s w c (cube_step s n c (step.Sum p f q h g)) (sum_rule s w c n f h p q g a b None ea eb e)
 
-guard_is : {A : Type 0} (b : Bool) (x y : A) → Some x ≡ guard b (Some y) → x ≡ y
+pub guard_is : {A : Type 0} (b : Bool) (x y : A) → Some x ≡ guard b (Some y) → x ≡ y
 guard_is true x y e = some_same x y e
 guard_is false x y e = absurd (cc)
 
@@ -105,7 +105,7 @@ none_is : {A : Type 0} (o : Option A) → is_none o ≡ true → o ≡ None
 none_is None e = refl
 none_is (Some x) e = absurd (cc)
 
-split_known : (s : Sort) (n : ℕ) (l : Lit) → first_past (lit_numbers l) ≡ None → is_split s n l ≡ true → IsKnown s l × IsKnown s (neg s l)
+pub split_known : (s : Sort) (n : ℕ) (l : Lit) → first_past (lit_numbers l) ≡ None → is_split s n l ≡ true → IsKnown s l × IsKnown s (neg s l)
 split_known s n l h e =
     let r1 = and_parts (is_primitive s l && all_below n (form_of l).terms) (is_none (first_past (lit_numbers (neg s l)))) e in
     let r2 = and_parts (is_primitive s l) (all_below n (form_of l).terms) r1.0 in
@@ -116,7 +116,7 @@ split_known s n l h e =
 abbrev pub pair : Lit → Lit → Lit × Lit
 pair a b = (a, b)
 
-guard_true : {A : Type 0} (b : Bool) (x y : A) → Some x ≡ guard b (Some y) → b ≡ true
+pub guard_true : {A : Type 0} (b : Bool) (x y : A) → Some x ≡ guard b (Some y) → b ≡ true
 guard_true true x y e = refl
 guard_true false x y e = absurd (cc)
 
@@ -125,7 +125,7 @@ split_broken s w c n l e =
     breaks s w c (split_line s n c l)
     (sym (guard_map (λ (p : Lit × Lit). with_fact c (lit p.0) ∷ with_fact c (lit p.1) ∷ []) (is_split s n l) (pair l (neg s l))) ∙ ap (option_map (λ (p : Lit × Lit). with_fact c (lit p.0) ∷ with_fact c (lit p.1) ∷ [])) (sym e))
 
-pub split_made : (s : Sort) (w : WrittenSystem) (c : Context) (n : ℕ) (l a b : Lit) (m : Next) (x y : Lit) → Some (pair a b) ≡ guard (is_split s n l) (Some (pair l (neg s l))) → x ≡ a → y ≡ b → next_of s w c m ≡ with_fact c (lit x) ∷ with_fact c (lit y) ∷ [] → IsNext s w m ≡ (IsKnown s x × IsKnown s y) → first_past (lit_numbers l) ≡ None → Leaves s w c (split_line s n c l) (Some m)
+pub split_made : (s : Sort) (w : WrittenSystem) (c : Context) (n : ℕ) (l a b : Lit) (m : Next) (x y : Lit) → Some (pair a b) ≡ guard (is_split s n l) (Some (pair l (neg s l))) → x ≡ a → y ≡ b → next_of s w c m ≡ with_fact c (lit x) ∷ with_fact c (lit y) ∷ [] → IsKeptNext s w m ≡ (IsKnown s x × IsKnown s y) → first_past (lit_numbers l) ≡ None → Leaves s w c (split_line s n c l) (Some m)
 split_made s w c n l a b m x y e xe ye me ke h =
     let t = guard_true (is_split s n l) (pair a b) (pair l (neg s l)) e in
     let q = guard_is (is_split s n l) (pair a b) (pair l (neg s l)) e in

@@ -1,5 +1,5 @@
 -- The parts of a fact, and the parts of the matrix that it stands for.
-use Rattle.std.specs.Prelude.{ℕ, zero, suc, ◌≡◌, ◌≢◌, Bool, true, false, nat_eq, Option, Some, None, option_map, option_and_then, slice_get, List, [], ◌∷◌, length}
+use Rattle.std.specs.Prelude.{ℕ, zero, suc, ◌≡◌, ◌≢◌, Bool, true, false, nat_eq, Option, Some, None, option_map, option_and_then, slice_get, Result, Ok, Err, IfOk, List, [], ◌∷◌, length}
 use Rattle.std.specs.Option.{option_copied}
 use Rattle.std.proofs.lemmas.Bool.{eqb-true}
 use Rattle.std.proofs.Common.{ap, ◌∙◌, sym, subst, refl, Bor}
@@ -9,12 +9,12 @@ use Rattle.dom_core.specs.declared.Matrix.{Matrix as Tree, Lit as Leaf, And, Or,
 use Rattle.dom_core.specs.declared.Matrix.TheVariants.{outs-Lit, outs-And, outs-Or}
 use Rattle.dom_core.specs.declared.Matrix.TheOpen.{Matrix-F}
 use Rattle.dom_core.specs.Game.{Matrix, lit, all, some, Matrices, none, more, IsMatrix, AreMatrices}
-use Rattle.dom_core.specs.Problem.{IsKept, AreKept}
+use Rattle.dom_core.specs.Problem.{HasNegations, HaveNegations}
 use Rattle.dom_core.specs.View.{matrix_of, matrices_of, matrix_step}
 use Rattle.lose_system.specs.Written.{WrittenSystem}
 use Rattle.cube_rules.specs.Context.{Context}
 use Rattle.cube_rules.specs.Facts.{child, count, guard, and_child, or_children}
-use Rattle.cube_rules.specs.Lines.{cases_line, each_child}
+use Rattle.cube_rules.specs.Lines.{cases_line, each_child, leaves}
 use Rattle.proof_rules.specs.Held.{part_on, parts_on, or_part, and_parts, IsFact}
 use Rattle.proof_rules.specs.declared.fact.Fact.{Fact}
 use Rattle.proof_rules.specs.declared.fact.Fact.TheVariants.{OnPath}
@@ -72,20 +72,20 @@ count_is (t ∷ ts) = ap suc (count_is ts)
 some_same : {A : Type 0} (x y : A) → Some x ≡ Some y → x ≡ y
 some_same x y e = cc
 
-child_kept : (s : Sort) (n : ℕ) (ms : Matrices) (i : ℕ) (m : Matrix) → AreMatrices ms s n → AreKept ms s → child ms i ≡ Some m → IsMatrix m s n × IsKept m s
+child_kept : (s : Sort) (n : ℕ) (ms : Matrices) (i : ℕ) (m : Matrix) → AreMatrices ms s n → HaveNegations ms s → child ms i ≡ Some m → IsMatrix m s n × HasNegations m s
 child_kept s n none i m o k e = absurd (cc)
-child_kept s n (more x ms) zero m o k e = subst (λ (y : Matrix). IsMatrix y s n × IsKept y s) (some_same x m e) (o.0, k.0)
+child_kept s n (more x ms) zero m o k e = subst (λ (y : Matrix). IsMatrix y s n × HasNegations y s) (some_same x m e) (o.0, k.0)
 child_kept s n (more x ms) (suc i) m o k e = child_kept s n ms i m o.1 k.1 e
 
-pub or_part_kept : (s : Sort) (n i : ℕ) (m x : Matrix) → IsMatrix m s n → IsKept m s → or_part i m ≡ Some x → IsMatrix x s n × IsKept x s
+pub or_part_kept : (s : Sort) (n i : ℕ) (m x : Matrix) → IsMatrix m s n → HasNegations m s → or_part i m ≡ Some x → IsMatrix x s n × HasNegations x s
 or_part_kept s n i (lit l) x o k e = absurd (cc)
 or_part_kept s n i (all ms) x o k e = absurd (cc)
 or_part_kept s n i (some ms) x o k e = child_kept s n ms i x o k e
 
-pub and_parts_kept : (s : Sort) (n : ℕ) (m : Matrix) (ms : Matrices) → IsMatrix m s n → IsKept m s → and_parts m ≡ Some ms → AreMatrices ms s n × AreKept ms s
+pub and_parts_kept : (s : Sort) (n : ℕ) (m : Matrix) (ms : Matrices) → IsMatrix m s n → HasNegations m s → and_parts m ≡ Some ms → AreMatrices ms s n × HaveNegations ms s
 and_parts_kept s n (lit l) ms o k e = absurd (cc)
 and_parts_kept s n (some xs) ms o k e = absurd (cc)
-and_parts_kept s n (all xs) ms o k e = subst (λ (y : Matrices). AreMatrices y s n × AreKept y s) (some_same xs ms e) (o, k)
+and_parts_kept s n (all xs) ms o k e = subst (λ (y : Matrices). AreMatrices y s n × HaveNegations y s) (some_same xs ms e) (o, k)
 
 pub differ : (a b : ℕ) → a ≢ b → nat_eq a b ≡ false
 differ a b n = by (nat_eq a b) refl
@@ -105,3 +105,18 @@ child_is_fact s w k i fact m x f e p h q =
     let here : IsFact s w (OnPath k m) = subst (λ (y : Fact). IsFact s w y) e h in
     subst (λ (y : Fact). IsFact s w y) (some_same (OnPath k x) f q)
     (let k = or_part_kept s (length w.problem.prefix) i (matrix_of m.now) (matrix_of x.now) here.1 here.2 (sym p) in (here.0, k.0, k.1))
+
+-- ---- the literals of a disjunction
+
+leaves_count : (ls : List Lit) → count (leaves ls) ≡ length ls
+leaves_count [] = refl
+leaves_count (l ∷ ls) = ap suc (leaves_count ls)
+
+pub cases_learnt : (c : Context) (n m : ℕ) (ls : List Lit) (b : Bool) → m ≡ length ls → nat_eq m n ≡ b → guard b (Some (each_child c (leaves ls))) ≡ cases_line c n (leaves ls)
+cases_learnt c n m ls b e q =
+    ap (λ (x : Bool). guard x (Some (each_child c (leaves ls)))) (sym q ∙ ap (λ (i : ℕ). nat_eq i n) (e ∙ sym (leaves_count ls)))
+
+-- what two clauses on a result give
+pub IfOk_from : {A E : Type 0} {P Q R : A → Type 0} (r : Result A E) → ((x : A) → P x → Q x → R x) → IfOk r P → IfOk r Q → IfOk r R
+IfOk_from (Ok x) f h k = f x h k
+IfOk_from (Err e) f h k = tt

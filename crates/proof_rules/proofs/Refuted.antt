@@ -15,9 +15,10 @@ use Rattle.game_tree.specs.Skeleton.{Skeleton, end, theirs, mine, Branches, no_m
 use Rattle.lose_system.specs.Losing.{definitions, branch_definitions, routes, System, system, literal_number, definition_at, AllDefined, AllLose, Solves, Lost}
 use Rattle.lose_system.proofs.Play.{lost_is_true}
 use Rattle.cube_rules.specs.declared.Step.{Step}
-use Rattle.cube_rules.specs.declared.Step.TheVariants.{Path, Def, Part, Cases, Sum, Split, Cube, Least, False}
+use Rattle.cube_rules.specs.declared.Step.TheVariants.{Path, Def, Part, Cases, Sum, Split, Cube, Least, Learn, False}
 use Rattle.cube_rules.specs.Context.{Context, open_context}
-use Rattle.cube_rules.specs.Lines.{is_within, goes_on}
+use Rattle.cube_rules.specs.Limits.{is_within}
+use Rattle.cube_rules.specs.Lines.{goes_on}
 use Rattle.cube_rules.proofs.Sound.{guard_some, map_some, then_some, some_same, OfSort, EachOfSort, Fact, Facts, NoneHolds, one_left, cube_step_sound, tree_sound}
 use Rattle.proof_rules.specs.Rules.{path_line, def_line, rule_line, apply, Refutes}
 
@@ -136,6 +137,7 @@ line_sound s sys c (Sum x a y b g) ks p h f e n =
 line_sound s sys c (Split l) ks p h f e n = cube_step_sound s sys.count c (Split l) ks p h.point f e n
 line_sound s sys c (Cube is) ks p h f e n = cube_step_sound s sys.count c (Cube is) ks p h.point f e n
 line_sound s sys c (Least v k) ks p h f e n = cube_step_sound s sys.count c (Least v k) ks p h.point f e n
+line_sound s sys c (Learn ls) ks p h f e n = cube_step_sound s sys.count c (Learn ls) ks p h.point f e n
 line_sound s sys c (False a) ks p h f e n = cube_step_sound s sys.count c (False a) ks p h.point f e n
 
 -- ---- whole proofs

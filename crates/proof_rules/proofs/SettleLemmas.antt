@@ -11,7 +11,7 @@ use Rattle.cube_rules.specs.Context.{Context}
 use Rattle.cube_rules.specs.Facts.{literal_of}
 use Rattle.proof_rules.specs.declared.fact.Fact.{Fact}
 use Rattle.proof_rules.specs.declared.state.Frame.{Frame}
-use Rattle.proof_rules.specs.declared.state.State.{State}
+use Rattle.proof_rules.specs.declared.state.ProofState.{ProofState}
 use Rattle.proof_rules.specs.Held.{nodes_on, part_on, fact_of, context_of, IsFact, AreFacts}
 use Rattle.proof_rules.specs.Stack.{rest_of, waiting_of, stack_of, AreFrames, IsState, Moved, Settled, added}
 use Rattle.proof_rules.proofs.StackLemmas.{facts-push}
@@ -40,7 +40,7 @@ module _ (s : Sort) (w : WrittenSystem) where
       (ap (λ (c : Context). rest_of s w c f.rest) (context_same f.bare f.base (take f.len xs) (take f.len ys) t))
       (waiting_same fs (take f.len xs) (take f.len ys) t)
 
-  stack_same : (st : State) (ys : List Fact) → Same ys st.facts → stack_of s w (record st { facts = ys }) ≡ stack_of s w st
+  stack_same : (st : ProofState) (ys : List Fact) → Same ys st.facts → stack_of s w (record st { facts = ys }) ≡ stack_of s w st
   stack_same st ys e =
       ap₂ (λ (c : Context) (cs : List Context). if st.closed then [] else (c ∷ cs))
       (context_same st.bare st.base ys st.facts e) (waiting_same (reverse st.waiting) ys st.facts e)
@@ -49,10 +49,10 @@ module _ (s : Sort) (w : WrittenSystem) where
   front [] f a = (tt, a.0)
   front (g ∷ fs) f a = let r = front fs f a.1 in ((a.0, r.0), r.1)
 
-  pub last_is : (st : State) (fs : List Fact) (f : Fact) → IsState s w st → st.facts ≡ fs ++ f ∷ [] → IsFact s w f
+  pub last_is : (st : ProofState) (fs : List Fact) (f : Fact) → IsState s w st → st.facts ≡ fs ++ f ∷ [] → IsFact s w f
   last_is st fs f i e = (front fs f (subst (λ (xs : List Fact). AreFacts s w xs) e i.facts)).1
 
-  pub settle_one : (st : State) (fs : List Fact) (f g : Fact) → IsState s w st → st.facts ≡ fs ++ f ∷ [] → fact_of s w g ≡ fact_of s w f → IsFact s w g → Settled s w st (added (record st { facts = fs }) g)
+  pub settle_one : (st : ProofState) (fs : List Fact) (f g : Fact) → IsState s w st → st.facts ≡ fs ++ f ∷ [] → fact_of s w g ≡ fact_of s w f → IsFact s w g → Settled s w st (added (record st { facts = fs }) g)
   settle_one st fs f g i e q k =
       let a = front fs f (subst (λ (xs : List Fact). AreFacts s w xs) e i.facts) in
       let same : Same (fs ++ g ∷ []) st.facts =
@@ -67,10 +67,10 @@ module _ (s : Sort) (w : WrittenSystem) where
         };
       }
 
-  pub settle_none : (st : State) (fs : List Fact) → IsState s w st → st.facts ≡ [] → fs ≡ [] → Settled s w st (record st { facts = fs })
+  pub settle_none : (st : ProofState) (fs : List Fact) → IsState s w st → st.facts ≡ [] → fs ≡ [] → Settled s w st (record st { facts = fs })
   settle_none st fs i e f =
       subst (λ (xs : List Fact). Settled s w st (record st { facts = xs })) (e ∙ sym f) (record { stack = refl; kept = i })
 
   -- what a line leaves, with its last fact built
-  pub moved_settled : (cs : List Context) (st mid new : State) → Moved s w cs st mid → Settled s w mid new → Moved s w cs st new
+  pub moved_settled : (cs : List Context) (st mid new : ProofState) → Moved s w cs st mid → Settled s w mid new → Moved s w cs st new
   moved_settled cs st mid new m t = record { stack = t.stack ∙ m.stack; kept = t.kept }

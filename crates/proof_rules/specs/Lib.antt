@@ -4,3 +4,5 @@ pub mod Left
 pub mod Held
 pub mod Stack
 pub mod Begun
+pub mod Stepping
+pub mod Writable

@@ -5,10 +5,11 @@ use Rattle.dom_core.specs.Game.{lit, Problem}
 use Rattle.game_tree.specs.Skeleton.{Skeleton}
 use Rattle.lose_system.specs.Losing.{System, system, literal_number, definition_at}
 use Rattle.cube_rules.specs.declared.Step.{Step}
-use Rattle.cube_rules.specs.declared.Step.TheVariants.{Path, Def, Part, Cases, Sum, Split, Cube, Least, False}
+use Rattle.cube_rules.specs.declared.Step.TheVariants.{Path, Def, Part, Cases, Sum, Split, Cube, Least, Learn, False}
 use Rattle.cube_rules.specs.Context.{Context, open_context}
 use Rattle.cube_rules.specs.Facts.{guard}
-use Rattle.cube_rules.specs.Lines.{is_within, goes_on, cube_step}
+use Rattle.cube_rules.specs.Limits.{is_within}
+use Rattle.cube_rules.specs.Lines.{goes_on, cube_step}
 use Rattle.cube_rules.specs.Closing.{Proof, preorder, Rules, Closes}
 
 -- open, and there is such a path: its negated matrix
@@ -29,6 +30,7 @@ rule_line s sys c (Sum p f q h g) = cube_step s sys.count c (Sum p f q h g)
 rule_line s sys c (Split l) = cube_step s sys.count c (Split l)
 rule_line s sys c (Cube fs) = cube_step s sys.count c (Cube fs)
 rule_line s sys c (Least v n) = cube_step s sys.count c (Least v n)
+rule_line s sys c (Learn ls) = cube_step s sys.count c (Learn ls)
 rule_line s sys c (False f) = cube_step s sys.count c (False f)
 
 -- the contexts that are still to be closed after a line, or none where it breaks its rule

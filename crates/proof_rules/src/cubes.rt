@@ -23,6 +23,7 @@ fn again<'a>(fact: &Fact<'a>) -> Result<Fact<'a>, Memory>
     match fact {
         Fact::OnPath(path, matrix) => Ok(Fact::OnPath(*path, *matrix)),
         Fact::Known(lit) => Ok(Fact::Known(lit.clone()?)),
+        Fact::Learnt(clause) => Ok(Fact::Learnt(clause.clone()?)),
     }
 }
 
@@ -32,6 +33,7 @@ fn is_literal(fact: &Fact<'_>) -> bool
 {
     match fact {
         Fact::Known(_) => true,
+        Fact::Learnt(_) => false,
         Fact::OnPath(_, matrix) => {
             let matrix = *matrix;
             is_leaf(matrix)

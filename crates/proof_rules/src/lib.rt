@@ -3,15 +3,23 @@
 
 mod bad_line;
 mod checker;
+mod clause;
 mod cubes;
 mod fact;
+mod learn;
 mod least;
 mod left;
 mod lines;
 mod literals;
 mod made;
 mod parts;
+mod rules;
+mod spliced;
 mod state;
 
 pub use bad_line::BadLine;
 pub use checker::check;
+pub use clause::Clause;
+pub use fact::Fact;
+pub use spliced::proof_allows_bare;
+pub use state::ProofState;

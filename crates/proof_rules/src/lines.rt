@@ -4,16 +4,16 @@ ghost use Rattle.std.specs.Prelude.{◌≡◌, ℕ, Bool, true, false, IfOk};
 ghost use Rattle.lin_term.specs.declared.Sort.{Sort};
 ghost use Rattle.lose_system.specs.Written.{WrittenSystem, system_of};
 ghost use Rattle.cube_rules.specs.declared.Step.TheVariants as step;
-ghost use Rattle.lin_term.specs.Truth.{truth_of};
-ghost use Rattle.cube_rules.specs.Lines.{cube_step, is_false as is_false_of};
+ghost use Rattle.cube_rules.specs.Lines.{cube_step};
 ghost use Rattle.proof_rules.specs.Rules.{path_line, def_line};
 ghost use Rattle.proof_rules.specs.Held.{context_of, AreFacts, Leaves};
 
 use crate::fact::{Fact, Next};
 use crate::literals::{fact_at, literal_at, shared};
 use crate::parts::{and_child, or_cases};
+use cube_rules::is_false_literal;
 use dom_core::Domain;
-use lin_term::{Lit, Memory, closed_truth};
+use lin_term::Memory;
 use lose_system::System;
 use std::alloc::Global;
 
@@ -60,11 +60,11 @@ pub fn part<'a>(facts: &[Fact<'a>], f: u32, i: u32) -> Option<Next<'a>>
 }
 
 /// `cases`: a subproof for each child of a fact that is a disjunction.
-pub fn cases<'a>(facts: &[Fact<'a>], f: u32, count: u64) -> Option<Next<'a>>
-    ensures { (s : Sort) (w : WrittenSystem) (bare : Bool) (n : ℕ) → AreFacts s w facts.now → Leaves s w (context_of s w bare facts.now) (cube_step s n (context_of s w bare facts.now) (step.Cases f count)) result }
+pub fn cases<'a>(facts: &[Fact<'a>], f: u32, count: u64) -> Result<Option<Next<'a>>, Memory>
+    ensures { IfOk result (λ o. (s : Sort) (w : WrittenSystem) (bare : Bool) (n : ℕ) → AreFacts s w facts.now → Leaves s w (context_of s w bare facts.now) (cube_step s n (context_of s w bare facts.now) (step.Cases f count)) o) }
 {
     let Some(fact) = fact_at(facts, f) else {
-        return None;
+        return Ok(None);
     };
     or_cases(fact, count)
 }
@@ -82,19 +82,9 @@ pub fn falsity<'a, D: Domain>(
     let Some(lit) = literal_at(alloc, system, facts, f)? else {
         return Ok(None);
     };
-    if is_false(&lit) {
+    if is_false_literal(&lit) {
         Ok(Some(Next::Closed))
     } else {
         Ok(None)
-    }
-}
-
-/// Whether the literal has no variable and is false.
-fn is_false(lit: &Lit) -> bool
-    ensures { result ≡ is_false_of (truth_of lit.now) }
-{
-    match closed_truth(lit) {
-        Some(truth) => !truth,
-        None => false,
     }
 }

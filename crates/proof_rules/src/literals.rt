@@ -7,7 +7,7 @@ ghost use Rattle.lin_term.specs.Literal.{neg, rename_lit};
 ghost use Rattle.dom_core.specs.Cube.{IsPrimitiveCube};
 ghost use Rattle.lose_system.specs.Written.{WrittenSystem};
 ghost use Rattle.dom_core.specs.Game.{lit as leaf, IsMatrix};
-ghost use Rattle.dom_core.specs.Problem.{IsKept};
+ghost use Rattle.dom_core.specs.Problem.{HasNegations};
 ghost use Rattle.cube_rules.specs.Facts as facts_of;
 ghost use Rattle.proof_rules.specs.Held.{fact_of, context_of, nodes_on, IsPath, IsKnown, IsFact, AreFacts};
 
@@ -39,7 +39,7 @@ fn made<D: Domain>(
 ) -> Result<Rc<Lit>, Memory>
     requires path { IsPath system.now path }
     requires matrix { IsMatrix (leaf lit.now) D.SORT (length system.now.problem.prefix) }
-    requires kept { IsKept (leaf lit.now) D.SORT }
+    requires kept { HasNegations (leaf lit.now) D.SORT }
     ensures value { IfOk result (λ l. l.value ≡ rename_lit (nodes_on system.now path) (neg D.SORT lit.now)) }
     ensures known { IfOk result (λ l. IsKnown D.SORT l.value) }
 {
@@ -62,6 +62,7 @@ pub fn settled<'a, D: Domain>(
 {
     match fact {
         Fact::Known(lit) => Ok(Fact::Known(lit)),
+        Fact::Learnt(clause) => Ok(Fact::Learnt(clause)),
         Fact::OnPath(path, matrix) => match literal_of(matrix) {
             Some(lit) => Ok(Fact::Known(made(alloc, system, path, lit)?)),
             None => Ok(Fact::OnPath(path, matrix)),
@@ -81,6 +82,7 @@ pub fn literal<D: Domain>(
 {
     match fact {
         Fact::Known(lit) => Ok(Some(lit.clone()?)),
+        Fact::Learnt(_) => Ok(None),
         Fact::OnPath(path, matrix) => {
             let matrix = *matrix;
             match literal_of(matrix) {

@@ -1,5 +1,4 @@
-pub mod Carrying
 pub mod Lining
 pub mod Winning
-pub mod Sorts
+pub mod Heading
 pub mod Telling

@@ -1,5 +1,5 @@
 -- One more line, and the end of the lines.
-use Rattle.std.proofs.Common.{◌≡◌, ℕ, ◌++◌, ◌||◌, Bool, true, false, List, [], ◌∷◌, map, length, drop, refl, ap, sym, ◌∙◌, subst, append_assoc, append-nil}
+use Rattle.std.proofs.Common.{◌≡◌, ℕ, ◌++◌, ◌||◌, Bool, true, false, List, [], ◌∷◌, map, refl, ap, sym, ◌∙◌, append_assoc, append-nil}
 use Rattle.lin_term.specs.declared.Sort.{Sort}
 use Rattle.dom_core.specs.Game.{Problem}
 use Rattle.dom_core.specs.Problem.{WrittenProblem, problem_of}
@@ -18,6 +18,10 @@ any_cons s P x Ps xs = refl
 pub lines_nil : (s : Sort) (xs : List Section) → lines s [] xs ≡ []
 unfolding lines
 lines_nil s xs = refl
+
+pub lines_short : (s : Sort) (P : Problem) (Ps : List Problem) → lines s (P ∷ Ps) [] ≡ []
+unfolding lines
+lines_short s P Ps = refl
 
 pub any_nil : (s : Sort) (xs : List Section) → any_rejected s [] xs ≡ false
 unfolding any_rejected

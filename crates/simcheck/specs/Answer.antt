@@ -1,20 +1,16 @@
 -- The answer to the words over what the shelf gives, and what was written of it.
-use Rattle.std.specs.Prelude.{ℕ, ◌≡◌, ◌≢◌, ◌<◌, ◌⊎◌, List, Option, Some, None, Result, Ok, Err}
+use Rattle.std.specs.Prelude.{ℕ, ◌≡◌, ◌≢◌, ◌⊎◌, List, Option, Some, None, Result, Ok, Err}
 use Rattle.ss_names.specs.declared.ScriptFault.{ScriptFault}
-use Rattle.ss_shelf.specs.declared.CallKind.{CallKind}
-use Rattle.ss_shelf.specs.declared.CallKind.TheVariants.{Fetch}
-use Rattle.ss_shelf.specs.Outside.{Files, Counts, Tells, Appends, AppendsPart}
+use Rattle.ss_shelf.specs.Outside.{Files, Tells, Appends, AppendsPart}
+use Rattle.script_games.specs.Games.{Games, games}
+use Rattle.script_games.specs.Acceptance.{IsReadAsSpelled}
+use Rattle.script_games.specs.Headline.{IsWorth}
+use Rattle.script_games.specs.Given.{AsksFor}
 use Rattle.simcheck.specs.declared.status.CheckStatus.{CheckStatus}
 use Rattle.simcheck.specs.declared.status.CheckStatus.TheVariants as status
 use Rattle.simcheck.specs.declared.report.Report.{Report}
-use Rattle.lin_term.specs.declared.Sort.{Sort}
-use Rattle.lin_truth.specs.Goal.{Goal}
-use Rattle.smt_goal.specs.Script.{read}
-use Rattle.simcheck.specs.Carried.{questions_in}
 use Rattle.simcheck.specs.Words.{Names}
-use Rattle.simcheck.specs.Games.{Games, games}
-use Rattle.simcheck.specs.Verdicts.{Answer, usage, refusal, judged}
-use Rattle.simcheck.specs.Worth.{IsProved}
+use Rattle.simcheck.specs.Verdicts.{Answer, usage, refusal, printed_for}
 
 abbrev pub answer_of : Report → Answer
 answer_of report = record { status = report.status; text = report.text.items }
@@ -22,7 +18,8 @@ answer_of report = record { status = report.status; text = report.text.items }
 -- once the script is read; where it has a fault, the file does not matter
 abbrev pub AnswersGames : Option Files → List ℕ → List ℕ → Result Games ScriptFault → Answer → Type 0
 AnswersGames told script file (Err fault) answer = answer ≡ refusal fault
-AnswersGames told script file (Ok g) answer = (bytes : List ℕ) × Tells told file bytes × (answer ≡ judged g bytes) × IsProved script bytes
+AnswersGames told script file (Ok g) answer =
+    (bytes : List ℕ) × Tells told file bytes × (answer ≡ printed_for g bytes) × IsReadAsSpelled bytes × IsWorth script bytes answer.text
 
 -- the answer to these words over what the shelf gives, and what is said to be accepted is proved
 abbrev pub Answers : Option Files → Option Names → Answer → Type 0
@@ -33,12 +30,6 @@ Answers told (Some names) answer = (script : List ℕ) × Tells told names.scrip
 abbrev pub IsNamed : Option Names → List ℕ → Type 0
 IsNamed None name = ⊥
 IsNamed (Some names) name = (name ≡ names.script) ⊎ (name ≡ names.file)
-
--- where the call failed the count of a fetch of a watched name rose; no other count changes, and none where it did not fail
-pub record ReadCounted (watched : List ℕ → Type 0) (before now : Counts) (failed : Type 0) : Type 0 where
-  pub rose : failed → (name : List ℕ) × watched name × (before Fetch name < now Fetch name)
-  pub kept : (failed → ⊥) → now ≡ before
-  pub others : (kind : CallKind) → (name : List ℕ) → (kind ≡ Fetch → watched name → ⊥) → now kind name ≡ before kind name
 
 -- the statuses that are answers, and no faults of the outside
 abbrev pub IsAnswer : CheckStatus → Type 0
@@ -53,7 +44,7 @@ IsAnswer status.Memory = ⊥
 abbrev pub answer_games : Result Games ScriptFault → Option (List ℕ) → Option Answer
 answer_games (Err fault) file = Some (refusal fault)
 answer_games (Ok g) None = None
-answer_games (Ok g) (Some bytes) = Some (judged g bytes)
+answer_games (Ok g) (Some bytes) = Some (printed_for g bytes)
 
 abbrev pub answer_script : Option (List ℕ) → Option (List ℕ) → Option Answer
 answer_script None file = None
@@ -89,6 +80,6 @@ abbrev pub UsageOnlyFor : Option Names → CheckStatus → Type 0
 UsageOnlyFor None result = result ≡ status.Usage
 UsageOnlyFor (Some names) result = result ≢ status.Usage
 
--- the answer once the goals are read: they are those of the script
-abbrev pub AnswersGoals : Option Files → List ℕ → Sort → List Goal → Answer → Type 0
-AnswersGoals told file s gs answer = (script : List ℕ) → read script ≡ Ok (questions_in s gs) → AnswersGames told script file (games script) answer
+-- the answer over a script that asks for these games
+abbrev pub AnswersGiven : Option Files → List ℕ → Games → Answer → Type 0
+AnswersGiven told file g answer = (script : List ℕ) → AsksFor script g → AnswersGames told script file (games script) answer

@@ -1,21 +1,21 @@
 -- What is printed of a file for the games of a script.
 use Rattle.std.specs.Prelude.{ℕ, ◌++◌, ◌||◌, Bool, true, false, if◌then◌else◌, List, [], ◌∷◌, length, Result, Ok, Err, codes, decimal, nat_eq}
-use Rattle.ss_names.specs.Kind.{kind_number, kind_name}
 use Rattle.ss_names.specs.declared.ScriptFault.{ScriptFault}
-use Rattle.ss_names.specs.declared.ScriptFault.TheVariants.{Bad, Memory}
 use Rattle.lin_term.specs.declared.Sort.{Sort}
 use Rattle.dom_core.specs.declared.Side.TheVariants.{Exists, Forall}
 use Rattle.dom_core.specs.Game.{Problem}
 use Rattle.cube_rules.specs.Name.{printed}
 use Rattle.strat_words.specs.Spot.{Place}
 use Rattle.strat_text.specs.declared.Section.{Section}
+use Rattle.strat_text.specs.Sections.{Sections}
 use Rattle.strat_text.specs.File.{reading}
 use Rattle.strat_check.specs.declared.Checked.{Checked}
 use Rattle.strat_check.specs.declared.Checked.TheVariants.{Accepted, Unclaimed, Rejected}
 use Rattle.strat_check.specs.Section.{verdict}
+use Rattle.script_games.specs.Games.{Games}
+use Rattle.script_games.specs.Refusal.{refusal_text}
 use Rattle.simcheck.specs.declared.status.CheckStatus.{CheckStatus}
 use Rattle.simcheck.specs.declared.status.CheckStatus.TheVariants as status
-use Rattle.simcheck.specs.Games.{Games}
 
 -- how a run ends, and what it prints
 pub record Answer : Type 0 where
@@ -24,12 +24,6 @@ pub record Answer : Type 0 where
 
 abbrev pub usage : Answer
 usage = record { status = status.Usage; text = codes "usage: simcheck SCRIPT FILE\n" }
-
--- kind, name, line, column
-abbrev pub refusal_text : ScriptFault → List ℕ
-refusal_text (Bad kind line column) =
-    codes "refused " ++ (decimal (kind_number kind) ++ (codes " " ++ (kind_name kind ++ (codes " " ++ (decimal line ++ (codes " " ++ (decimal column ++ codes "\n")))))))
-refusal_text Memory = []
 
 abbrev pub refusal : ScriptFault → Answer
 refusal fault = record { status = status.Refused; text = refusal_text fault }
@@ -67,10 +61,10 @@ checked g xs =
     then record { status = status_of (any_rejected g.sort g.problems xs); text = lines g.sort g.problems xs }
     else record { status = status.Rejected; text = codes "rejected 2 goals\n" }
 
-abbrev pub judged_of : Games → Result (List Section) Place → Answer
+abbrev pub judged_of : Games → Result Sections Place → Answer
 judged_of g (Err place) = record { status = status.Rejected; text = codes "rejected " ++ (decimal place.line ++ codes " form\n") }
-judged_of g (Ok xs) = checked g xs
+judged_of g (Ok xs) = checked g xs.list
 
 -- the answer where the script asks for these games and the file has these bytes
-unfoldable pub judged : Games → List ℕ → Answer
-judged g file = judged_of g (reading file)
+unfoldable pub printed_for : Games → List ℕ → Answer
+printed_for g file = judged_of g (reading file)

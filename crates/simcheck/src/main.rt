@@ -1,7 +1,6 @@
 //! Checks a strategy file against a script: is each claimed verdict proved by its section?
 #![tactic(auto)]
 
-mod games;
 mod report;
 mod run;
 mod status;

@@ -5,14 +5,16 @@ ghost use Rattle.strat_text.specs.File.{reading};
 ghost use Rattle.std.specs.List.{AllByRecursion};
 ghost use Rattle.dom_core.specs.Problem.{problem_of};
 ghost use Rattle.ss_names.specs.declared.ScriptFault.TheVariants.{Bad};
-ghost use Rattle.strat_text.specs.Spelling.{IsSection, Spells, line_of};
-ghost use Rattle.strat_text.specs.declared.Section.{Section};
-ghost use Rattle.simcheck.specs.Verdicts.{usage, refusal, refusal_text, verdict_text, is_rejected, lines, any_rejected, checked, judged};
-ghost use Rattle.simcheck.specs.Carried.{EachWins};
+ghost use Rattle.strat_text.specs.Sections.{Sections};
+ghost use Rattle.strat_text.specs.Spelling.{IsSection, line_of};
+ghost use Rattle.script_games.specs.Acceptance.{IsReadAsSpelled};
+ghost use Rattle.simcheck.specs.Verdicts.{usage, refusal, verdict_text, is_rejected, lines, any_rejected, checked, printed_for};
+ghost use Rattle.simcheck.specs.Carried.{EachWins, ReadsSpelled};
 ghost use Rattle.simcheck.specs.Answer.{answer_of, IsAnswer};
 
 use crate::status::CheckStatus;
 use dom_core::{Domain, Problem, Side};
+use script_games::refusal_line;
 use ss_names::FaultKind;
 use std::alloc::{AllocError, Global};
 use strat_check::{Checked, check_goal};
@@ -49,9 +51,7 @@ pub fn refusal_report(
     ensures answer { IfOk result (λ r. answer_of r ≡ refusal (Bad kind line column)) }
     ensures status { IfOk result (λ r. IsAnswer r.status) }
 {
-    let number = kind.number();
-    let name = kind.name();
-    let text = format!(in alloc; "refused {number} {name} {line} {column}\n")?;
+    let text = refusal_line(alloc, kind, line, column)?;
     Ok(Report {
         status: CheckStatus::Refused,
         text: text.into_bytes(),
@@ -103,7 +103,7 @@ fn append_lines<D: Domain>(
     requires early { AllByRecursion (λ x. line_of x < 2 ^ 63) sections.now }
     ensures text { IfOk result (λ r. text.new.items ≡ text.old.items ++ lines D.SORT (map problem_of problems.now) sections.now) }
     ensures rejected { IfOk result (λ r. r ≡ any_rejected D.SORT (map problem_of problems.now) sections.now) }
-    ensures wins { IfOk result (λ r. EachWins D.SORT problems.now sections.now) }
+    ensures wins { IfOk result (λ r. EachWins D.SORT (map problem_of problems.now) sections.now) }
 {
     let mut rejected = false;
     for i in 0..problems.len() {
@@ -128,7 +128,7 @@ fn check_sections<D: Domain>(
     requires early { AllByRecursion (λ x. line_of x < 2 ^ 63) sections.now }
     ensures answer { IfOk result (λ r. answer_of r ≡ checked (record { sort = D.SORT; problems = map problem_of problems.now }) sections.now) }
     ensures status { IfOk result (λ r. IsAnswer r.status) }
-    ensures wins { IfOk result (λ r. length problems.now ≡ length sections.now → EachWins D.SORT problems.now sections.now) }
+    ensures wins { IfOk result (λ r. length problems.now ≡ length sections.now → EachWins D.SORT (map problem_of problems.now) sections.now) }
 {
     if problems.len() != sections.len() {
         let text = String::from_str(alloc, "rejected 2 goals\n")?;
@@ -163,16 +163,18 @@ fn reject_form(alloc: Global, line: u64) -> Result<Report, AllocError>
 
 /// The answer for these problems over the bytes of the file; what it says to be accepted is won by its section. Refuses
 /// only for memory.
-#[tactic(auto, unfolding(crate::specs::Verdicts::judged))]
+#[tactic(auto, unfolding(crate::specs::Verdicts::printed_for))]
 pub fn judge<D: Domain>(
     alloc: Global,
     problems: &[Problem<D>],
     file: &[u8],
 ) -> Result<Report, AllocError>
-    ensures answer { IfOk result (λ r. answer_of r ≡ judged (record { sort = D.SORT; problems = map problem_of problems.now }) file.now) }
+    ensures answer { IfOk result (λ r. answer_of r ≡ printed_for (record { sort = D.SORT; problems = map problem_of problems.now }) file.now) }
     ensures status { IfOk result (λ r. IsAnswer r.status) }
-    ensures wins { IfOk result (λ r. (xs : List _) → reading file.now ≡ Ok xs → length problems.now ≡ length xs → EachWins D.SORT problems.now xs) }
-    ensures spelled { IfOk result (λ r. (xs : List Section) → reading file.now ≡ Ok xs → Spells file.now xs) }
+    ensures wins { IfOk result (λ r. (xs : Sections) → reading file.now ≡ Ok xs → length problems.now ≡ length xs.list → EachWins D.SORT (map problem_of problems.now) xs.list) }
+    // What is read is spelled, and what is spelled is read.
+    ensures spelled { IfOk result (λ r. IsReadAsSpelled file.now) }
+    ensures reads { IfOk result (λ r. ReadsSpelled file.now) }
 {
     match read_file(alloc, file) {
         Ok(sections) => check_sections(alloc, problems, sections.as_slice()),

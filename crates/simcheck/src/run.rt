@@ -1,24 +1,19 @@
 //! A run of the checker over files and output.
 
-ghost use Rattle.std.specs.Prelude.{◌≡◌, ◌⊎◌, ◌<◌, ◌^◌, List, ℕ, map, length, option_map, IfOk, Ok, Err, Some, None, string_bytes};
-ghost use Rattle.ss_names.specs.declared.ScriptFault.TheVariants.{Bad};
+ghost use Rattle.std.specs.Prelude.{◌≡◌, ◌⊎◌, map, option_map, IfOk, Err, Some, string_bytes};
 ghost use Rattle.dom_core.specs.Problem.{problem_of};
-ghost use Rattle.ss_shelf.specs.Outside.{Tells, Rose};
-ghost use Rattle.simcheck.specs.Carried.{AreOfSort};
+ghost use Rattle.ss_shelf.specs.Outside.{Rose};
+ghost use Rattle.script_games.specs.Told.{ReadCounted};
+ghost use Rattle.script_games.specs.Given.{games_of_given};
+ghost use Rattle.script_games.specs.Headline.{SatIsTrue, UnsatIsFalse, OthersClaimNothing, AcceptedIsPrinted};
 ghost use Rattle.simcheck.specs.Words.{is_name as is_name_of, names_of};
-ghost use Rattle.simcheck.specs.Verdicts.{Answer};
-ghost use Rattle.simcheck.specs.Answer.{answer_of, Answers, AnswersGoals, IsAnswer, IsNamed, ReadCounted, Said, SaidPart, UsageOnlyFor};
+ghost use Rattle.simcheck.specs.Answer.{answer_of, Answers, AnswersGiven, IsAnswer, IsNamed, Said, SaidPart, UsageOnlyFor};
+ghost use Rattle.simcheck.specs.Told.{WhereTold};
 
-use crate::games::problems_of;
 use crate::report::{Report, judge, refusal_report, usage_report};
 use crate::status::CheckStatus;
-use dom_core::Domain;
-use dom_int::Int;
-use dom_rat::Rat;
-use lin_term::Sort;
-use lin_truth::Goal;
-use smt_goal::{Script, read_script};
-use ss_names::ScriptFault;
+use dom_core::{Domain, Problem};
+use script_games::{GamesFault, ScriptGames, fetch_all, read_games};
 use ss_shelf::{Shelf, ShelfFault, Sink, SinkFault};
 use std::alloc::Global;
 
@@ -52,68 +47,44 @@ fn two_names<'a>(words: &'a [String]) -> Option<(&'a str, &'a str)>
     }
 }
 
-fn fetch_all<S: Shelf>(alloc: Global, shelf: &mut S, name: &str) -> Result<Vec<u8>, Stop>
-    ensures same { S.files shelf.new ≡ S.files shelf.old }
-    ensures bytes { IfOk result (λ bytes. Tells (S.files shelf.old) name.now bytes.items) }
-    ensures counts { ReadCounted (λ n. n ≡ name.now) (S.faults shelf.old) (S.faults shelf.new) (result ≡ Err Stop.ReadFault) }
-{
-    let mut bytes = Vec::new(alloc);
-    match shelf.fetch(name, &mut bytes) {
-        Ok(()) => Ok(bytes),
-        Err(ShelfFault::Failed) => Err(Stop::ReadFault),
-        Err(ShelfFault::Memory) => Err(Stop::Memory),
-    }
-}
-
-/// The answer once the goals are read.
-fn judge_goals<D: Domain, S: Shelf>(
+/// The answer for these problems over the file of this name.
+fn judge_file<D: Domain, S: Shelf>(
     alloc: Global,
     shelf: &mut S,
     file: &str,
-    goals: &[Goal],
+    problems: &[Problem<D>],
 ) -> Result<Report, Stop>
-    requires { AreOfSort D.SORT goals.now }
     ensures same { S.files shelf.new ≡ S.files shelf.old }
-    ensures answer { IfOk result (λ r. AnswersGoals (S.files shelf.old) file.now D.SORT goals.now (answer_of r)) }
+    ensures answer { IfOk result (λ r. AnswersGiven (S.files shelf.old) file.now (record { sort = D.SORT; problems = map problem_of problems.now }) (answer_of r)) }
     ensures status { IfOk result (λ r. IsAnswer r.status) }
     ensures counts { ReadCounted (λ n. n ≡ file.now) (S.faults shelf.old) (S.faults shelf.new) (result ≡ Err Stop.ReadFault) }
 {
-    let problems = match problems_of::<D>(alloc, goals) {
-        Ok(problems) => problems,
-        Err(ScriptFault::Bad { kind, line, column }) => {
-            return match refusal_report(alloc, kind, line, column) {
-                Ok(report) => Ok(report),
-                Err(_) => Err(Stop::Memory),
-            };
-        }
-        Err(ScriptFault::Memory) => return Err(Stop::Memory),
-    };
     let bytes = match fetch_all(alloc, shelf, file) {
         Ok(bytes) => bytes,
-        Err(stop) => return Err(stop),
+        Err(ShelfFault::Failed) => return Err(Stop::ReadFault),
+        Err(ShelfFault::Memory) => return Err(Stop::Memory),
     };
-    match judge(alloc, problems.as_slice(), bytes.as_slice()) {
+    match judge(alloc, problems, bytes.as_slice()) {
         Ok(report) => Ok(report),
         Err(_) => Err(Stop::Memory),
     }
 }
 
-/// The answer for a script, by the sort of its logic.
-fn judge_script<S: Shelf>(
+/// The answer for the games of a script, by their sort.
+fn judge_games<S: Shelf>(
     alloc: Global,
     shelf: &mut S,
     file: &str,
-    script: &Script,
+    games: &ScriptGames,
 ) -> Result<Report, Stop>
-    requires { AreOfSort script.now.sort script.now.goals }
     ensures same { S.files shelf.new ≡ S.files shelf.old }
-    ensures answer { IfOk result (λ r. AnswersGoals (S.files shelf.old) file.now script.now.sort script.now.goals (answer_of r)) }
+    ensures answer { IfOk result (λ r. AnswersGiven (S.files shelf.old) file.now (games_of_given games.now) (answer_of r)) }
     ensures status { IfOk result (λ r. IsAnswer r.status) }
     ensures counts { ReadCounted (λ n. n ≡ file.now) (S.faults shelf.old) (S.faults shelf.new) (result ≡ Err Stop.ReadFault) }
 {
-    match script.sort() {
-        Sort::Rat => judge_goals::<Rat, S>(alloc, shelf, file, script.goals()),
-        Sort::Int => judge_goals::<Int, S>(alloc, shelf, file, script.goals()),
+    match games {
+        ScriptGames::Rat(problems) => judge_file(alloc, shelf, file, problems.as_slice()),
+        ScriptGames::Int(problems) => judge_file(alloc, shelf, file, problems.as_slice()),
     }
 }
 
@@ -128,19 +99,16 @@ fn answer_names<S: Shelf>(
     ensures status { IfOk result (λ r. IsAnswer r.status) }
     ensures counts { ReadCounted (IsNamed (Some (record { script = script.now; file = file.now }))) (S.faults shelf.old) (S.faults shelf.new) (result ≡ Err Stop.ReadFault) }
 {
-    let bytes = match fetch_all(alloc, shelf, script) {
-        Ok(bytes) => bytes,
-        Err(stop) => return Err(stop),
-    };
-    match read_script(alloc, bytes.as_slice()) {
-        Ok(goals) => judge_script(alloc, shelf, file, &goals),
-        Err(ScriptFault::Bad { kind, line, column }) => {
+    match read_games(alloc, shelf, script) {
+        Ok(games) => judge_games(alloc, shelf, file, &games),
+        Err(GamesFault::Bad { kind, line, column }) => {
             match refusal_report(alloc, kind, line, column) {
                 Ok(report) => Ok(report),
                 Err(_) => Err(Stop::Memory),
             }
         }
-        Err(ScriptFault::Memory) => Err(Stop::Memory),
+        Err(GamesFault::Unread) => Err(Stop::ReadFault),
+        Err(GamesFault::Memory) => Err(Stop::Memory),
     }
 }
 
@@ -161,15 +129,52 @@ fn report_on<S: Shelf>(alloc: Global, words: &[String], shelf: &mut S) -> Result
     }
 }
 
+/// Makes the answer and prints it.
+#[tactic(auto, using(crate::proofs::Telling::is_over))]
+fn answer_and_print<S: Shelf, O: Sink>(
+    alloc: Global,
+    words: &[String],
+    shelf: &mut S,
+    out: &mut O,
+) -> CheckStatus
+    ensures answer { IsAnswer result → Said (S.files shelf.old) (names_of (map string_bytes words.now)) (O.written out.old) (O.written out.new) result }
+    ensures usage { IsAnswer result → UsageOnlyFor (names_of (map string_bytes words.now)) result }
+    ensures counts { ReadCounted (IsNamed (names_of (map string_bytes words.now))) (S.faults shelf.old) (S.faults shelf.new) (result ≡ CheckStatus.ReadFault) }
+    ensures nothing { result ≡ CheckStatus.ReadFault → O.written out.new ≡ O.written out.old }
+    ensures print_fault { result ≡ CheckStatus.PrintFault → Rose (O.faults out.old) (O.faults out.new) }
+    ensures part { result ≡ CheckStatus.PrintFault → SaidPart (S.files shelf.old) (names_of (map string_bytes words.now)) (O.written out.old) (O.written out.new) }
+    ensures memory { result ≡ CheckStatus.Memory → (O.written out.new ≡ O.written out.old) ⊎ SaidPart (S.files shelf.old) (names_of (map string_bytes words.now)) (O.written out.old) (O.written out.new) }
+    ensures files { S.files shelf.new ≡ S.files shelf.old }
+{
+    let report = match report_on(alloc, words, shelf) {
+        Ok(report) => report,
+        Err(Stop::ReadFault) => return CheckStatus::ReadFault,
+        Err(Stop::Memory) => return CheckStatus::Memory,
+    };
+    match out.write(report.text.as_slice()) {
+        Ok(()) => report.status,
+        Err(SinkFault::Failed) => CheckStatus::PrintFault,
+        Err(SinkFault::Memory) => CheckStatus::Memory,
+    }
+}
+
 /// Checks the file against the script that the words name, prints the answer, and says how it ended. The statuses 0 to 3
 /// are answers; the others are a fault of reading, a fault of printing, and want of memory.
-#[tactic(auto, using(crate::proofs::Telling::is_over))]
 pub fn check_run<S: Shelf, O: Sink>(
     alloc: Global,
     words: &[String],
     shelf: &mut S,
     out: &mut O,
 ) -> CheckStatus
+    // Of each run over files and output that are told, whatever its status: where line k of what it printed is
+    // `accepted sat`, goal k of the script is true, and the file accepts it. Goals and lines count from 0.
+    ensures sat { WhereTold (S.files shelf.old) (names_of (map string_bytes words.now)) (O.written out.old) (O.written out.new) SatIsTrue }
+    // Where it is `accepted unsat`, the goal is not true, and the file accepts it.
+    ensures unsat { WhereTold (S.files shelf.old) (names_of (map string_bytes words.now)) (O.written out.old) (O.written out.new) UnsatIsFalse }
+    // Where it is any other, the file accepts the goal for no side.
+    ensures others { WhereTold (S.files shelf.old) (names_of (map string_bytes words.now)) (O.written out.old) (O.written out.new) OthersClaimNothing }
+    // An answer has an accepted line for each goal that the file accepts.
+    ensures accepted { IsAnswer result → WhereTold (S.files shelf.old) (names_of (map string_bytes words.now)) (O.written out.old) (O.written out.new) AcceptedIsPrinted }
     // An answer is that of the words and of what the shelf tells of the files, and where the sink tells it, exactly its
     // text was written.
     ensures answer { IsAnswer result → Said (S.files shelf.old) (names_of (map string_bytes words.now)) (O.written out.old) (O.written out.new) result }
@@ -185,14 +190,5 @@ pub fn check_run<S: Shelf, O: Sink>(
     // Where the shelf tells its files, every file is as before.
     ensures files { S.files shelf.new ≡ S.files shelf.old }
 {
-    let report = match report_on(alloc, words, shelf) {
-        Ok(report) => report,
-        Err(Stop::ReadFault) => return CheckStatus::ReadFault,
-        Err(Stop::Memory) => return CheckStatus::Memory,
-    };
-    match out.write(report.text.as_slice()) {
-        Ok(()) => report.status,
-        Err(SinkFault::Failed) => CheckStatus::PrintFault,
-        Err(SinkFault::Memory) => CheckStatus::Memory,
-    }
+    answer_and_print(alloc, words, shelf, out)
 }

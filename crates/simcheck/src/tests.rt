@@ -138,6 +138,22 @@ fn a_missing_file_is_a_read_fault(rt: HostRuntime) -> Result<(), Fail> {
 }
 
 #[test]
+fn a_faulty_script_is_refused_before_the_file(rt: HostRuntime) -> Result<(), Fail> {
+    let alloc = rt.alloc();
+    let mut shelf = MemoryShelf::new(alloc);
+    let mut out = MemorySink::new(alloc);
+    let words = words(alloc)?;
+    assert!(&rt;
+        shelf
+            .store("a.smt2", b"(set-logic QF_UF)\n".as_slice())
+            .is_ok()
+    );
+    assert!(&rt; check_run(alloc, words.as_slice(), &mut shelf, &mut out) == CheckStatus::Refused);
+    assert!(&rt; out.bytes() == b"refused 4 Logic 1 12\n".as_slice());
+    Ok(())
+}
+
+#[test]
 fn failing_calls_have_their_status(rt: HostRuntime) -> Result<(), Fail> {
     let alloc = rt.alloc();
     let words = words(alloc)?;

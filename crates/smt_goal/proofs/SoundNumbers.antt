@@ -84,7 +84,7 @@ keep b v = cond b (Some v) None
 kept_is : (n d : ℕ) → IsLowest n d → kept (record { num = pos n; den = d }) ≡ Some (record { num = pos n; den = d })
 kept_is n d is =
     (λ k. keep (is_within (lowest_is n d is.common k)) (lowest_is n d is.common k))
-    ∙ ap (λ (b : Bool). keep b (fraction n d)) (and_both (nat_le n cap) (nat_le d cap) (nat_le_true n cap is.num) (nat_le_true d cap is.den))
+    ∙ ap (λ (b : Bool). keep b (fraction n d)) (and_both (nat_le n cap) (nat_le d cap && nat_le 1 d) (nat_le_true n cap is.num) (and_both (nat_le d cap) (nat_le 1 d) (nat_le_true d cap is.den) (nat_le_true 1 d is.some)))
 
 divisor_pos : (d m : ℕ) → 1 ≤ d → 1 ≤ gcd d m
 divisor_pos d m o = from (gcd d m) (gcd_is d m).0
@@ -132,14 +132,15 @@ kept_lowest m d u o is = by (is_within (lowest (fraction m d))) refl is
 
     by : (b : Bool) → is_within (lowest (fraction m d)) ≡ b → keep b (lowest (fraction m d)) ≡ Some u → (n e : ℕ) × (u ≡ record { num = pos n; den = e }) × IsLowest n e
     by true within is =
-        let both = and_true (nat_le (m / or_one (gcd d m)) cap) (nat_le (d / or_one (gcd d m)) cap) within in (
+        let both = and_true (nat_le (m / or_one (gcd d m)) cap) (nat_le (d / or_one (gcd d m)) cap && nat_le 1 (d / or_one (gcd d m))) within in
+        let dens = and_true (nat_le (d / or_one (gcd d m)) cap) (nat_le 1 (d / or_one (gcd d m))) both.1 in (
           m / or_one (gcd d m),
           d / or_one (gcd d m),
           sym (some_is (lowest (fraction m d)) u is),
           record {
             common = lowest_common m d o;
             num = le_of_true (m / or_one (gcd d m)) cap both.0;
-            den = le_of_true (d / or_one (gcd d m)) cap both.1;
+            den = le_of_true (d / or_one (gcd d m)) cap dens.0;
             some = lowest_some m d o;
           },
         )

@@ -5,9 +5,6 @@ use Rattle.std.specs.Prelude.{nat_le}
 use Rattle.lin_term.specs.Form.{cap}
 use Rattle.std.proofs.Math.Nat.{mul-le-mul_left, mul-le-mul_right, pow-le-pow_right, pow-succ'}
 use Rattle.std.proofs.lemmas.Nat.{pow-add}
-use Rattle.std.proofs.lemmas.Nat.Gcd.{IsGcd-from_mod, IsGcd-from_zero, same_from_IsGcd}
-use Rattle.lin_term.specs.Literal.{gcd}
-use Rattle.lin_term.proofs.PrimitiveLemmas.{gcd_is}
 use Rattle.smt_term.specs.Numeral.{number_behind, number_of}
 
 -- a number only grows
@@ -73,10 +70,9 @@ two-runs n w f small le =
     let first : n + 1 ≤ 10 ^ w = omega (arith, small) in
     omega (arith, mul-le-mul_right (10 ^ f) first, pow-add 10 w f, low)
 
--- ---- the greatest common divisor
+-- a power of ten with at most 38 zeros
+pub power-small : (n : ℕ) → n ≤ 38 → 10 ^ n ≤ 10 ^ 38
+power-small n le = pow-le-pow_right {n = 10} (omega arith) le
 
-pub gcd-step : (a b : ℕ) → gcd b (a % b) ≡ gcd a b
-gcd-step a b = same_from_IsGcd a b (gcd b (a % b)) (gcd a b) (IsGcd-from_mod a b (gcd b (a % b)) (gcd_is b (a % b))) (gcd_is a b)
-
-pub gcd-zero : (a b : ℕ) → b ≡ 0 → gcd a b ≡ a
-gcd-zero a b e = same_from_IsGcd a b (gcd a b) a (gcd_is a b) (IsGcd-from_zero a b e)
+pub power-some : (n : ℕ) → 1 ≤ 10 ^ n
+power-some n = let least : 0 ≤ n = omega arith in let low : 10 ^ 0 ≤ 10 ^ n = pow-le-pow_right {n = 10} (omega arith) least in omega (arith, low)

@@ -119,11 +119,11 @@ IsToken read (Err (Bad k line column)) = read ≡ Err (Bad k line column)
 IsToken read (Err Memory) = Unit {0}
 
 -- a value as a numerator and a denominator, if there is one
-abbrev pub IsKept : Option Value → Option (ℤ × ℤ) → Type 0
-IsKept None None = Unit {0}
-IsKept None (Some v) = ⊥
-IsKept (Some v) None = ⊥
-IsKept (Some v) (Some w) = v ≡ record { num = w.0; den = den_of w.1 }
+abbrev pub IsKeptExpression : Option Value → Option (ℤ × ℤ) → Type 0
+IsKeptExpression None None = Unit {0}
+IsKeptExpression None (Some v) = ⊥
+IsKeptExpression (Some v) None = ⊥
+IsKeptExpression (Some v) (Some w) = v ≡ record { num = w.0; den = den_of w.1 }
 
 -- the same, of a reading
 abbrev pub IsAmount : Read Value → Result (ℤ × ℤ) ScriptFault → Type 0

@@ -3,15 +3,15 @@
 ghost use Rattle.std.specs.Prelude.{◌≡◌, ◌≤◌, ◌+◌, ◌*◌, ◌^◌, length, pos, nat_le, Some, None, if◌then◌else◌};
 ghost use Rattle.std.specs.Char.{is_ascii_digit};
 ghost use Rattle.std.specs.List.{prefix_len};
-ghost use Rattle.lin_term.specs.Literal.{gcd, or_one};
 ghost use Rattle.lin_truth.specs.Worked.{kept};
-ghost use Rattle.smt_term.specs.View.{IsKept, IsAmount};
+ghost use Rattle.smt_term.specs.View.{IsKeptExpression, IsAmount};
 ghost use Rattle.lin_term.specs.Form.{cap};
 ghost use Rattle.smt_lex.specs.Lexeme.{lexeme};
 ghost use Rattle.smt_term.specs.Numeral as spec;
 ghost use Rattle.smt_term.specs.View.{IsRead};
 
 use crate::part::bad;
+use lin_term::Fraction;
 use smt_lex::Token;
 use ss_names::{FaultKind, ScriptFault};
 
@@ -102,40 +102,17 @@ fn power_of_ten(exponent: usize) -> u128
     power
 }
 
-fn gcd_of(a: u128, b: u128) -> u128
-    ensures { result ≡ gcd a b }
-{
-    let mut x = a;
-    let mut y = b;
-    while y != 0 {
-        let r = x % y;
-        x = y;
-        y = r;
-    }
-    x
-}
-
-fn at_least_one(n: u128) -> u128
-    ensures value { result ≡ or_one n }
-    ensures some { 1 ≤ result }
-{
-    if n == 0 { 1 } else { n }
-}
-
 // In lowest terms, if it is within the cap.
 fn lowest(num: u128, den: u128) -> Option<(i64, i64)>
-    ensures { IsKept (kept (record { num = pos num; den = den })) result }
+    requires num_small { num ≤ 10 ^ 38 }
+    requires den_least { 1 ≤ den }
+    requires den_small { den ≤ 10 ^ 38 }
+    ensures { IsKeptExpression (kept (record { num = pos num; den = den })) result }
 {
-    let divisor = at_least_one(gcd_of(den, num));
-    let num = num / divisor;
-    let den = den / divisor;
-    if num > 4_503_599_627_370_496 {
-        return None;
+    match Fraction::make(num as i128, den as i128) {
+        Ok(x) => Some((x.num(), x.den())),
+        Err(_) => None,
     }
-    if den > 4_503_599_627_370_496 {
-        return None;
-    }
-    Some((num as i64, den as i64))
 }
 
 /// The numerator and the denominator of a decimal, in lowest terms, each up to 2^52. Where one is larger, or the
@@ -152,7 +129,8 @@ pub fn decimal(token: &Token<'_>) -> Result<(i64, i64), ScriptFault>
         return Err(bad(FaultKind::Number, token.line, token.column));
     }
     let number = digits_behind(digits_behind(0, whole), fraction);
-    match lowest(number, power_of_ten(fraction.len())) {
+    let den = power_of_ten(fraction.len());
+    match lowest(number, den) {
         Some(value) => Ok(value),
         None => Err(bad(FaultKind::Number, token.line, token.column)),
     }

@@ -6,30 +6,17 @@ use Rattle.lin_term.specs.declared.Sort.{Sort}
 use Rattle.lin_term.specs.Move.{Move}
 use Rattle.dom_core.specs.declared.Quant.{Quant}
 use Rattle.dom_core.specs.declared.Quant.TheVariants.{Exists, Forall}
-use Rattle.game_tree.specs.declared.Tree.{Tree, fold-roll-Tree}
-use Rattle.game_tree.specs.declared.Tree.TheVariants as trees
-use Rattle.game_tree.specs.declared.Tree.TheOpen.{Tree-F}
+use Rattle.game_tree.specs.declared.Tree.{Tree}
 use Rattle.game_tree.specs.declared.Branch.{Branch}
-use Rattle.game_tree.specs.Skeleton.{Skeleton, Branches, end, theirs, mine, no_more, branch, IsNew, IsSomeBranch}
+use Rattle.game_tree.specs.Skeleton.{Skeleton, Branches, IsNew, IsSomeBranch}
 use Rattle.game_tree.specs.Skeleton as skeleton
-use Rattle.game_tree.specs.View.{skeleton_of, branches_of, tree_step, branch_step}
-use Rattle.lose_system.proofs.Filling.{branch_is}
-use Rattle.strat_text.specs.Spelling.{IsMoveAt, Differ, IsCount}
+use Rattle.game_tree.specs.View.{skeleton_of, branches_of}
+use Rattle.game_tree.proofs.Views.{seen_end, seen_theirs, seen_mine, seen_branches}
+use Rattle.cube_rules.specs.Limits.{IsCount}
+use Rattle.strat_text.specs.Spelling.{IsMoveLine, Differ}
 use Rattle.strat_text.specs.Spelling as spelling
 use Rattle.strat_check.specs.Section.{turns_of}
 use Rattle.strat_check.specs.Accepted.{EachKept, EachBranchKept}
-
-pub seen_end : skeleton_of trees.End ≡ end
-seen_end = ap skeleton_of (sym trees.rolls-End) ∙ fold-roll-Tree Skeleton (Move × Skeleton) tree_step branch_step Tree-F.End
-
-pub seen_theirs : (t : Tree) → skeleton_of (trees.Theirs t) ≡ theirs (skeleton_of t)
-seen_theirs t = ap skeleton_of (sym (trees.rolls-Theirs t)) ∙ fold-roll-Tree Skeleton (Move × Skeleton) tree_step branch_step (Tree-F.Theirs t)
-
-pub seen_mine : (bs : List Branch) → skeleton_of (trees.Mine bs) ≡ mine (branches_of bs)
-seen_mine bs = ap skeleton_of (sym (trees.rolls-Mine bs)) ∙ fold-roll-Tree Skeleton (Move × Skeleton) tree_step branch_step (Tree-F.Mine bs)
-
-pub seen_branches : (b : Branch) (bs : List Branch) → branches_of (b ∷ bs) ≡ branch b.term (skeleton_of b.rest) (branches_of bs)
-seen_branches b bs = ap (λ (x : Move × Skeleton). branch x.0 x.1 (branches_of bs)) (branch_is b)
 
 -- a member of a list has what all have
 all_at : (P : Move → Type 0) (xs ys : List Move) (m : Move) → AllByRecursion P (xs ++ m ∷ ys) → P m
@@ -50,15 +37,15 @@ some_branch [] h = absurd (omega (arith, h.0))
 some_branch (b ∷ bs) h = subst IsSomeBranch (sym (seen_branches b bs)) tt
 
 abbrev EachBelow : List Bool → ℕ → List Branch → Type 0
-EachBelow ts k bs = AllByRecursion (λ (b : Branch). IsMoveAt k b.term × spelling.Follows ts (k + 1) b.rest) bs
+EachBelow ts k bs = AllByRecursion (λ (b : Branch). IsMoveLine k b.term × spelling.FollowsTurns ts (k + 1) b.rest) bs
 
 -- the branches of a node, where this is known of the trees below it
-each_follows : (ts : List Bool) (qs : List Quant) (s : Sort) (k : ℕ) → ((t : Tree) → spelling.Follows ts (suc k) t → EachKept (skeleton_of t) s → skeleton.Follows (skeleton_of t) s qs (suc k)) →
+each_follows : (ts : List Bool) (qs : List Quant) (s : Sort) (k : ℕ) → ((t : Tree) → spelling.FollowsTurns ts (suc k) t → EachKept (skeleton_of t) s → skeleton.Follows (skeleton_of t) s qs (suc k)) →
     (bs : List Branch) (before : List Move) → Differ before bs → EachBelow ts k bs → EachBranchKept (branches_of bs) s → skeleton.EachFollows (branches_of bs) s qs k
 each_follows ts qs s k below [] before d f h = tt
 each_follows ts qs s k below (b ∷ bs) before d f h =
     let h' = subst (λ (x : Branches). EachBranchKept x s) (seen_branches b bs) h in
-    let f' = subst (λ (n : ℕ). spelling.Follows ts n b.rest) (let o : k + 1 ≡ suc k = omega arith in o) f.0.1 in
+    let f' = subst (λ (n : ℕ). spelling.FollowsTurns ts n b.rest) (let o : k + 1 ≡ suc k = omega arith in o) f.0.1 in
     subst (λ (x : Branches). skeleton.EachFollows x s qs k) (sym (seen_branches b bs)) (
       record { written = f.0.0.0; earlier = f.0.0.1; kept = h'.0 },
       is_new bs before [] b.term d.1,
@@ -66,7 +53,7 @@ each_follows ts qs s k below (b ∷ bs) before d f h =
       each_follows ts qs s k below bs (before ++ b.term ∷ []) d.1 f.1 h'.2,
     )
 
-pub follows : (ts : List Bool) (qs : List Quant) (s : Sort) (k : ℕ) (t : Tree) → ts ≡ turns_of qs → spelling.Follows ts k t → EachKept (skeleton_of t) s → skeleton.Follows (skeleton_of t) s qs k
+pub follows : (ts : List Bool) (qs : List Quant) (s : Sort) (k : ℕ) (t : Tree) → ts ≡ turns_of qs → spelling.FollowsTurns ts k t → EachKept (skeleton_of t) s → skeleton.Follows (skeleton_of t) s qs k
 follows [] [] s k t e f h = subst (λ (x : Skeleton). skeleton.Follows x s [] k) (sym (ap skeleton_of f ∙ seen_end)) tt
 follows [] (q ∷ qs) s k t e f h = absurd (cc)
 follows (false ∷ ts) [] s k t e f h = absurd (cc)
@@ -75,7 +62,7 @@ follows (false ∷ ts) (Forall ∷ qs) s k t e f h =
     let v = ap skeleton_of f.1 ∙ seen_theirs f.0 in
     let h' = subst (λ (x : Skeleton). EachKept x s) v h in
     let e' : ts ≡ turns_of qs = cc in
-    let f' = subst (λ (n : ℕ). spelling.Follows ts n f.0) (let o : k + 1 ≡ suc k = omega arith in o) f.2 in
+    let f' = subst (λ (n : ℕ). spelling.FollowsTurns ts n f.0) (let o : k + 1 ≡ suc k = omega arith in o) f.2 in
     subst (λ (x : Skeleton). skeleton.Follows x s (Forall ∷ qs) k) (sym v) (follows ts qs s (suc k) f.0 e' f' h')
 follows (true ∷ ts) [] s k t e f h = absurd (cc)
 follows (true ∷ ts) (Forall ∷ qs) s k t e f h = absurd (cc)

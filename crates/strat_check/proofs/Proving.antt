@@ -8,6 +8,7 @@ use Rattle.lin_term.specs.declared.Short.TheVariants as short
 use Rattle.lin_term.specs.Linear.{origin}
 use Rattle.dom_core.specs.declared.Side.{Side}
 use Rattle.dom_core.specs.declared.Side.TheVariants as side
+use Rattle.dom_core.specs.Sides.{problem_for}
 use Rattle.dom_core.specs.Game.{Problem, IsMatrix, TrueP, dual}
 use Rattle.dom_core.specs.Problem.{WrittenProblem, problem_of}
 use Rattle.dom_core.specs.declared.Quant.{Quant}
@@ -34,8 +35,8 @@ use Rattle.strat_text.specs.Spelling.{IsSection}
 use Rattle.strat_text.specs.Spelling as spelling
 use Rattle.strat_check.specs.declared.checked.Checked.{Checked}
 use Rattle.strat_check.specs.declared.checked.Checked.TheVariants as checked
-use Rattle.strat_check.specs.Section.{owner_problem, turns_of, same_turns, tree_lines, bad_move, by_proof, by_move, judged, verdict}
-use Rattle.strat_check.specs.Accepted.{EachKept, Proves, Accepts, IsLost}
+use Rattle.strat_check.specs.Section.{turns_of, same_turns, tree_lines, bad_move, by_proof, by_move, judged_claim, verdict}
+use Rattle.strat_check.specs.Accepted.{EachKept, IsBorneOut, Accepts, IsLost}
 use Rattle.strat_check.proofs.Walking.{none_seen, seen_none, tree_lines_few}
 use Rattle.strat_check.proofs.Turning.{turns_equal, equal_turns}
 use Rattle.strat_check.proofs.Follows.{follows}
@@ -57,7 +58,7 @@ split_proof : (claimed owner : Side) (first : ℕ) (o : Option BadLine) → by_p
 split_proof claimed owner first None h = (refl, cc)
 split_proof claimed owner first (Some b) h = absurd (cc)
 
-proves_of : (s : Sort) (P : Problem) (claimed owner : Side) (turns : List Bool) (S : Skeleton) (proof : List Step) (line : ℕ) → judged s P claimed turns S proof line ≡ checked.Accepted owner → (claimed ≡ owner) × Proves s P turns S proof
+proves_of : (s : Sort) (P : Problem) (claimed owner : Side) (turns : List Bool) (S : Skeleton) (proof : List Step) (line : ℕ) → judged_claim s P claimed turns S proof line ≡ checked.Accepted owner → (claimed ≡ owner) × IsBorneOut s P turns S proof
 proves_of s P claimed owner turns S proof line h =
     let a = split_turns (same_turns turns (turns_of P.prefix)) (by_move (by_proof claimed (line + 3 + tree_lines S) (first_bad s P S proof)) (bad_move S s (line + 2) 0)) (line + 1) owner h in
     let b = split_move (bad_move S s (line + 2) 0) (by_proof claimed (line + 3 + tree_lines S) (first_bad s P S proof)) owner a.1 in
@@ -76,7 +77,7 @@ take_true : (b : Bool) (x y : Checked) → b ≡ true → (if b then x else y) �
 take_true true x y h = refl
 take_true false x y h = absurd (cc)
 
-of_proves : (s : Sort) (P : Problem) (owner : Side) (turns : List Bool) (S : Skeleton) (proof : List Step) (line : ℕ) → Proves s P turns S proof → judged s P owner turns S proof line ≡ checked.Accepted owner
+of_proves : (s : Sort) (P : Problem) (owner : Side) (turns : List Bool) (S : Skeleton) (proof : List Step) (line : ℕ) → IsBorneOut s P turns S proof → judged_claim s P owner turns S proof line ≡ checked.Accepted owner
 of_proves s P owner turns S proof line h =
     let t : same_turns turns (turns_of P.prefix) ≡ true = subst (λ (x : List Bool). same_turns turns x ≡ true) h.turns_fit (equal_turns turns) in
     let m = seen_none S s (line + 2) 0 (let z = h.few in omega arith) h.kept in
@@ -89,21 +90,21 @@ of_proves s P owner turns S proof line h =
 pub accepted_accepts : (s : Sort) (P : Problem) (owner : Side) (x : Section) → verdict s P x ≡ checked.Accepted owner → Accepts s P owner x
 accepted_accepts s P owner section.Unknown h = absurd (cc)
 accepted_accepts s P owner (section.Claimed claimed turns tree proof line) h =
-    let a = proves_of s (owner_problem s claimed P) claimed owner turns (skeleton_of tree) proof line h in
-    (a.0, subst (λ (x : Side). Proves s (owner_problem s x P) turns (skeleton_of tree) proof) a.0 a.1)
+    let a = proves_of s (problem_for s claimed P) claimed owner turns (skeleton_of tree) proof line h in
+    (a.0, subst (λ (x : Side). IsBorneOut s (problem_for s x P) turns (skeleton_of tree) proof) a.0 a.1)
 
 pub accepts_accepted : (s : Sort) (P : Problem) (owner : Side) (x : Section) → Accepts s P owner x → verdict s P x ≡ checked.Accepted owner
 accepts_accepted s P owner section.Unknown h = absurd h
 accepts_accepted s P owner (section.Claimed claimed turns tree proof line) h =
-    of_proves s (owner_problem s claimed P) claimed turns (skeleton_of tree) proof line (subst (λ (x : Side). Proves s (owner_problem s x P) turns (skeleton_of tree) proof) (sym h.0) h.1) ∙ ap checked.Accepted h.0
+    of_proves s (problem_for s claimed P) claimed turns (skeleton_of tree) proof line (subst (λ (x : Side). IsBorneOut s (problem_for s x P) turns (skeleton_of tree) proof) (sym h.0) h.1) ∙ ap checked.Accepted h.0
 
 -- ---- what it is worth
 
 -- a tree that follows turns of the prefix, has few nodes and keeps its moves is a skeleton
-pub skeleton_is : (s : Sort) (P : Problem) (turns : List Bool) (tree : Tree) → turns ≡ turns_of P.prefix → spelling.Follows turns 0 tree → nodes (skeleton_of tree) ≤ node_limit → EachKept (skeleton_of tree) s → IsSkeleton s P (skeleton_of tree)
+pub skeleton_is : (s : Sort) (P : Problem) (turns : List Bool) (tree : Tree) → turns ≡ turns_of P.prefix → spelling.FollowsTurns turns 0 tree → nodes (skeleton_of tree) ≤ node_limit → EachKept (skeleton_of tree) s → IsSkeleton s P (skeleton_of tree)
 skeleton_is s P turns tree e f n k = record { follows = follows turns P.prefix s 0 tree e f k; few = n }
 
-proved_true : (s : Sort) (P : Problem) (turns : List Bool) (tree : Tree) (proof : List Step) → IsMatrix P.matrix s (length P.prefix) → spelling.Follows turns 0 tree → Proves s P turns (skeleton_of tree) proof → TrueP s P
+proved_true : (s : Sort) (P : Problem) (turns : List Bool) (tree : Tree) (proof : List Step) → IsMatrix P.matrix s (length P.prefix) → spelling.FollowsTurns turns 0 tree → IsBorneOut s P turns (skeleton_of tree) proof → TrueP s P
 proved_true s P turns tree proof o f h =
     refuted_is_true s P (skeleton_of tree) proof o (follows turns P.prefix s 0 tree h.turns_fit f h.kept) h.refutes
 
@@ -148,14 +149,14 @@ bad_few s P S proof b e = let h = bad_within (apply s (system s P S)) proof (ope
 
 -- the turns fit and each move is kept: the proof decides
 pub claim_judged : (s : Sort) (P : Problem) (owner : Side) (turns : List Bool) (S : Skeleton) (proof : List Step) (line at : ℕ) →
-    same_turns turns (turns_of P.prefix) ≡ true → bad_move S s (line + 2) 0 ≡ None → at ≡ (line + 2) + tree_lines S → by_proof owner (at + 1) (first_bad s P S proof) ≡ judged s P owner turns S proof line
+    same_turns turns (turns_of P.prefix) ≡ true → bad_move S s (line + 2) 0 ≡ None → at ≡ (line + 2) + tree_lines S → by_proof owner (at + 1) (first_bad s P S proof) ≡ judged_claim s P owner turns S proof line
 claim_judged s P owner turns S proof line at t m a =
     let n : at + 1 ≡ line + 3 + tree_lines S = omega arith in
     ap (λ (k : ℕ). by_proof owner k (first_bad s P S proof)) n
     ∙ sym (take_true (same_turns turns (turns_of P.prefix)) (by_move (by_proof owner (line + 3 + tree_lines S) (first_bad s P S proof)) (bad_move S s (line + 2) 0)) (checked.Rejected (line + 1) rule.Turns) t
     ∙ ap (by_move (by_proof owner (line + 3 + tree_lines S) (first_bad s P S proof))) m)
 
-pub claim_skeleton : (s : Sort) (P : Problem) (turns : List Bool) (tree : Tree) (line : ℕ) → same_turns turns (turns_of P.prefix) ≡ true → spelling.Follows turns 0 tree → bad_move (skeleton_of tree) s line 0 ≡ None → IsSkeleton s P (skeleton_of tree)
+pub claim_skeleton : (s : Sort) (P : Problem) (turns : List Bool) (tree : Tree) (line : ℕ) → same_turns turns (turns_of P.prefix) ≡ true → spelling.FollowsTurns turns 0 tree → bad_move (skeleton_of tree) s line 0 ≡ None → IsSkeleton s P (skeleton_of tree)
 claim_skeleton s P turns tree line t f m =
     let n = none_seen (skeleton_of tree) s line 0 m in
     skeleton_is s P turns tree (turns_equal turns (turns_of P.prefix) t) f (let z = n.few (omega arith) in omega arith) n.kept
@@ -186,14 +187,14 @@ found_bad s P tree w proof f b e h q =
 
 -- the verdict on the owner's problem is that on the section
 pub judged_verdict : (s : Sort) (P Q : Problem) (x : Section) (claimed owner : Side) (ts turns : List Bool) (tree : Tree) (ps proof : List Step) (line : ℕ) (r : Result Checked Memory) →
-    x ≡ section.Claimed claimed turns tree proof line → claimed ≡ owner → ts ≡ turns → ps ≡ proof → Q ≡ owner_problem s owner P →
-    IfOk r (λ c. c ≡ judged s Q owner ts (skeleton_of tree) ps line) → IfOk r (λ c. c ≡ verdict s P x)
+    x ≡ section.Claimed claimed turns tree proof line → claimed ≡ owner → ts ≡ turns → ps ≡ proof → Q ≡ problem_for s owner P →
+    IfOk r (λ c. c ≡ judged_claim s Q owner ts (skeleton_of tree) ps line) → IfOk r (λ c. c ≡ verdict s P x)
 judged_verdict s P Q x claimed owner ts turns tree ps proof line (Err e) xe o t p q k = tt
 judged_verdict s P Q x claimed owner ts turns tree ps proof line (Ok c) xe o t p q k =
-    k ∙ ap (λ (R : Problem). judged s R owner ts (skeleton_of tree) ps line) q
-    ∙ ap (λ (us : List Bool). judged s (owner_problem s owner P) owner us (skeleton_of tree) ps line) t
-    ∙ ap (λ (ls : List Step). judged s (owner_problem s owner P) owner turns (skeleton_of tree) ls line) p
-    ∙ ap (λ (w : Side). judged s (owner_problem s w P) w turns (skeleton_of tree) proof line) (sym o)
+    k ∙ ap (λ (R : Problem). judged_claim s R owner ts (skeleton_of tree) ps line) q
+    ∙ ap (λ (us : List Bool). judged_claim s (problem_for s owner P) owner us (skeleton_of tree) ps line) t
+    ∙ ap (λ (ls : List Step). judged_claim s (problem_for s owner P) owner turns (skeleton_of tree) ls line) p
+    ∙ ap (λ (w : Side). judged_claim s (problem_for s w P) w turns (skeleton_of tree) proof line) (sym o)
     ∙ sym (ap (verdict s P) xe)
 
 pub result_accepts : (s : Sort) (P : Problem) (x : Section) (r : Result Checked Memory) → IfOk r (λ c. c ≡ verdict s P x) → IfOk r (λ c. (owner : Side) → (c ≡ checked.Accepted owner) ↔ Accepts s P owner x)
@@ -226,7 +227,7 @@ turned_claims : (t : Bool) (x : Checked) (line : ℕ) → ¬ (x ≡ checked.Uncl
 turned_claims true x line n = n
 turned_claims false x line n = λ h. absurd (cc)
 
-judged_claims : (s : Sort) (P : Problem) (owner : Side) (turns : List Bool) (S : Skeleton) (proof : List Step) (line : ℕ) → ¬ (judged s P owner turns S proof line ≡ checked.Unclaimed)
+judged_claims : (s : Sort) (P : Problem) (owner : Side) (turns : List Bool) (S : Skeleton) (proof : List Step) (line : ℕ) → ¬ (judged_claim s P owner turns S proof line ≡ checked.Unclaimed)
 judged_claims s P owner turns S proof line =
     turned_claims (same_turns turns (turns_of P.prefix)) (by_move (by_proof owner (line + 3 + tree_lines S) (first_bad s P S proof)) (bad_move S s (line + 2) 0)) (line + 1)
     (moved_claims (bad_move S s (line + 2) 0) (first_bad s P S proof) owner (line + 3 + tree_lines S))
@@ -235,7 +236,7 @@ judged_claims s P owner turns S proof line =
 unclaimed_is : (s : Sort) (P : Problem) (x : Section) → (verdict s P x ≡ checked.Unclaimed) ↔ (x ≡ section.Unknown)
 unclaimed_is s P section.Unknown = (λ h. refl, λ h. refl)
 unclaimed_is s P (section.Claimed claimed turns tree proof line) =
-    (λ h. absurd (judged_claims s (owner_problem s claimed P) claimed turns (skeleton_of tree) proof line h), λ h. absurd (cc))
+    (λ h. absurd (judged_claims s (problem_for s claimed P) claimed turns (skeleton_of tree) proof line h), λ h. absurd (cc))
 
 pub result_unclaimed : (s : Sort) (P : Problem) (x : Section) (r : Result Checked Memory) → IfOk r (λ c. c ≡ verdict s P x) → IfOk r (λ c. (c ≡ checked.Unclaimed) ↔ (x ≡ section.Unknown))
 result_unclaimed s P x (Ok c) h = (λ e. (unclaimed_is s P x).0 (sym h ∙ e), λ e. h ∙ (unclaimed_is s P x).1 e)

@@ -4,7 +4,7 @@ use Rattle.std.proofs.Common.{arith, ap, ◌∙◌, sym, subst, refl, ltb-true}
 use Rattle.std.proofs.lemmas.Bool.{and_parts}
 use Rattle.lin_term.specs.declared.Sort.{Sort}
 use Rattle.lin_term.specs.Move.{Move}
-use Rattle.lin_term.specs.Definition.{IsKept}
+use Rattle.lin_term.specs.Definition.{IsKeptMove}
 use Rattle.game_tree.specs.Skeleton.{Skeleton, Branches, end, theirs, mine, no_more, branch, nodes, branch_nodes, node_limit}
 use Rattle.strat_check.specs.Section.{is_kept, tree_lines, branch_lines, or_else, bad_move, bad_branch}
 use Rattle.strat_check.specs.Accepted.{EachKept, EachBranchKept}
@@ -154,7 +154,7 @@ and_not true true h = absurd (h refl)
 and_not true false h = refl
 and_not false b h = refl
 
-pub fit_is : (r : Bool) (s : Sort) (m : Move) (before : ℕ) → before < 2 ^ 20 → (IsTrue r ↔ IsKept s m) → r ≡ (nat_lt before node_limit && is_kept s m)
+pub fit_is : (r : Bool) (s : Sort) (m : Move) (before : ℕ) → before < 2 ^ 20 → (IsTrue r ↔ IsKeptMove s m) → r ≡ (nat_lt before node_limit && is_kept s m)
 fit_is true s m before l h = sym (both_of (nat_lt before node_limit) (is_kept s m) (lt_of before node_limit l) (kept_test s m (h.0 refl)))
 fit_is false s m before l h = sym (and_not (nat_lt before node_limit) (is_kept s m) (λ e. let u : false ≡ true = h.1 (test_kept s m e) in absurd (cc)))
 

@@ -1,30 +1,25 @@
 -- What a section of a strategy file is worth for a problem: the first of its lines that is not in order, or acceptance.
-use Rattle.std.specs.Prelude.{ℕ, suc, ◌+◌, ◌&&◌, nat_lt, nat_eq, Bool, true, false, if◌then◌else◌, Option, Some, None, is_none, List, [], ◌∷◌}
+use Rattle.std.specs.Prelude.{ℕ, suc, ◌+◌, ◌&&◌, nat_lt, Bool, true, false, if◌then◌else◌, Option, Some, None, is_none, List, [], ◌∷◌}
 use Rattle.lin_term.specs.declared.Sort.{Sort}
 use Rattle.lin_term.specs.Move.{Move, lowest}
 use Rattle.lin_term.specs.Definition.{move_numbers}
+use Rattle.lin_term.specs.Same.{same_move}
 use Rattle.lin_term.specs.Wide.{first_past}
 use Rattle.dom_core.specs.declared.Quant.{Quant}
 use Rattle.dom_core.specs.declared.Quant.TheVariants as quant
 use Rattle.dom_core.specs.declared.Side.{Side}
-use Rattle.dom_core.specs.declared.Side.TheVariants as side
-use Rattle.dom_core.specs.Game.{Problem, dual}
+use Rattle.dom_core.specs.Game.{Problem}
+use Rattle.dom_core.specs.Sides.{problem_for}
 use Rattle.game_tree.specs.Skeleton.{Skeleton, Branches, end, theirs, mine, no_more, branch, nodes, node_limit}
 use Rattle.game_tree.specs.View.{skeleton_of}
 use Rattle.cube_rules.specs.declared.Rule.TheVariants as rule
 use Rattle.cube_rules.specs.declared.Step.{Step}
-use Rattle.cube_rules.specs.Facts.{same_form}
 use Rattle.proof_rules.specs.declared.BadLine.{BadLine}
 use Rattle.proof_rules.specs.Checked.{first_bad}
 use Rattle.strat_text.specs.declared.Section.{Section}
 use Rattle.strat_text.specs.declared.Section.TheVariants as section
 use Rattle.strat_check.specs.declared.checked.Checked.{Checked}
 use Rattle.strat_check.specs.declared.checked.Checked.TheVariants as checked
-
--- the problem in which the owner of the strategy is Exists
-abbrev pub owner_problem : Sort → Side → Problem → Problem
-owner_problem s side.Exists P = P
-owner_problem s side.Forall P = dual s P
 
 abbrev pub is_mine : Quant → Bool
 is_mine quant.Exists = true
@@ -46,7 +41,7 @@ same_turns (false ∷ ts) (false ∷ us) = same_turns ts us
 
 -- in lowest form, with its numbers and those of its definition within the cap
 abbrev pub is_kept : Sort → Move → Bool
-is_kept s m = same_form (lowest s m).numer m.numer && nat_eq (lowest s m).div m.div && is_none (first_past (move_numbers s m))
+is_kept s m = same_move (lowest s m) m && is_none (first_past (move_numbers s m))
 
 -- the lines of a tree in a file: one for a variable of the other player, one for a count of moves, one for each move
 abbrev mutual
@@ -87,8 +82,8 @@ by_move next None = next
 by_move next (Some line) = checked.Rejected line rule.Move
 
 -- turns, then moves, then the proof; its `goal` stands at this line, and P is the owner's problem
-abbrev pub judged : Sort → Problem → Side → List Bool → Skeleton → List Step → ℕ → Checked
-judged s P owner turns S proof line =
+abbrev pub judged_claim : Sort → Problem → Side → List Bool → Skeleton → List Step → ℕ → Checked
+judged_claim s P owner turns S proof line =
     if same_turns turns (turns_of P.prefix)
     then by_move (by_proof owner (line + 3 + tree_lines S) (first_bad s P S proof)) (bad_move S s (line + 2) 0)
     else checked.Rejected (line + 1) rule.Turns
@@ -97,4 +92,4 @@ judged s P owner turns S proof line =
 abbrev pub verdict : Sort → Problem → Section → Checked
 verdict s P section.Unknown = checked.Unclaimed
 verdict s P (section.Claimed owner turns tree proof line) =
-    judged s (owner_problem s owner P) owner turns (skeleton_of tree) proof line
+    judged_claim s (problem_for s owner P) owner turns (skeleton_of tree) proof line

@@ -7,8 +7,8 @@ ghost use Rattle.dom_core.specs.Problem.{problem_of, IsTrueProblem};
 ghost use Rattle.game_tree.specs.Skeleton.{IsSkeleton};
 ghost use Rattle.game_tree.specs.View.{skeleton_of};
 ghost use Rattle.proof_rules.specs.Checked.{first_bad};
-ghost use Rattle.strat_text.specs.Spelling.{IsSection, Follows, line_of};
-ghost use Rattle.strat_check.specs.Section.{verdict, judged, by_proof};
+ghost use Rattle.strat_text.specs.Spelling.{IsSection, FollowsTurns, line_of};
+ghost use Rattle.strat_check.specs.Section.{verdict, judged_claim, by_proof};
 ghost use Rattle.strat_check.specs.Accepted.{Accepts, IsLost};
 
 use crate::checked::Checked;
@@ -16,7 +16,7 @@ use crate::turns::fit;
 use crate::walk::{Spot, bad_line};
 use cube_rules::{Rule, Step};
 use dom_core::{Domain, Problem, Side};
-use game_tree::Tree;
+use game_tree::{SkeletonRef, Tree};
 use lin_term::{Memory, Short};
 use lose_system::System;
 use proof_rules::{BadLine, check};
@@ -34,6 +34,20 @@ fn rejected_at(count_line: u64, bad: BadLine) -> Checked
     }
 }
 
+/// The losing system of a tree that is a skeleton of the problem; refuses only for memory.
+fn losing_system<'a, D: Domain>(
+    alloc: Global,
+    problem: &'a Problem<D>,
+    tree: &'a Tree,
+) -> Result<System<'a, D>, Memory>
+    requires skeleton { IsSkeleton D.SORT (problem_of problem.now) (skeleton_of tree.now) }
+    ensures { IfOk result (λ s. s ≡ record { problem = problem.now; tree = tree.now }) }
+{
+    let _kept = problem.matrix();
+    let skeleton = SkeletonRef::from_tree(problem.prefix(), tree);
+    System::of(alloc, problem, skeleton)
+}
+
 /// The proof that every path of the tree loses; the count of its lines stands at this line of the file.
 fn check_proof<D: Domain>(
     alloc: Global,
@@ -47,7 +61,7 @@ fn check_proof<D: Domain>(
     requires room { count_line + 1 + length proof.now < 2 ^ 64 }
     ensures { IfOk result (λ c. c ≡ by_proof owner (count_line + 1) (first_bad D.SORT (problem_of problem.now) (skeleton_of tree.now) proof.now)) }
 {
-    let system = System::of(alloc, problem, tree)?;
+    let system = losing_system(alloc, problem, tree)?;
     let short = match check(alloc, &system, proof) {
         Ok(()) => return Ok(Checked::Accepted(owner)),
         Err(short) => short,
@@ -68,10 +82,10 @@ fn check_claim<D: Domain>(
     proof: &[Step],
     line: u64,
 ) -> Result<Checked, Memory>
-    requires follows { Follows turns.now 0 tree.now }
+    requires follows { FollowsTurns turns.now 0 tree.now }
     requires short { length proof.now ≤ cap }
     requires line { line < 2 ^ 63 }
-    ensures { IfOk result (λ c. c ≡ judged D.SORT (problem_of problem.now) owner turns.now (skeleton_of tree.now) proof.now line) }
+    ensures { IfOk result (λ c. c ≡ judged_claim D.SORT (problem_of problem.now) owner turns.now (skeleton_of tree.now) proof.now line) }
 {
     if !fit(turns, problem.prefix()) {
         return Ok(Checked::Rejected {

@@ -4,3 +4,4 @@ pub mod Trees
 pub mod Files
 pub mod Appending
 pub mod MoveLists
+pub mod Faults

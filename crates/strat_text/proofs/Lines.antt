@@ -8,6 +8,7 @@ use Rattle.lin_term.specs.Form.{Form, cap, IsRow, AreTerms}
 use Rattle.lin_term.specs.Linear.{Below, BelowTerms}
 use Rattle.lin_term.specs.declared.lit.Lit.{Lit}
 use Rattle.lin_term.specs.declared.lit.Lit.TheVariants.{AtLeast, Above, Divides, NotDivides}
+use Rattle.cube_rules.specs.Limits.{IsCount, IsLiteral}
 use Rattle.strat_words.specs.Spot.{Spot, ◌>>=◌, next, number_behind_space}
 use Rattle.strat_words.specs.Many.{made, Chain}
 use Rattle.strat_words.specs.Taking as taking
@@ -17,7 +18,6 @@ use Rattle.strat_words.proofs.WordLaws.{bind_ok, ok_is, Takes, Takes-then, Reads
 use Rattle.strat_text.specs.Line as line
 use Rattle.strat_text.specs.Line.{row, literal}
 use Rattle.strat_text.specs.Written as spelled
-use Rattle.strat_text.specs.Spelling.{IsCount, IsLiteral}
 
 -- ---- terms
 
@@ -42,7 +42,7 @@ pub all_below : (low : ℕ) (ts : List (ℕ × ℤ)) → AreTerms low ts → Bel
 all_below low [] a = tt
 all_below low (t ∷ ts) a = (a.1, all_below (t.0 + 1) ts a.4)
 
-term_takes : (limit low : ℕ) (s : Spot) (x : (ℕ × ℤ) × Spot) → line.term limit low s ≡ Ok x → Takes s (spelled.term x.0) x.1 × IsTerm limit low x.0
+pub term_takes : (limit low : ℕ) (s : Spot) (x : (ℕ × ℤ) × Spot) → line.term limit low s ≡ Ok x → Takes s (spelled.term x.0) x.1 × IsTerm limit low x.0
 term_takes limit low s x e =
     let a = bind_ok (taking.coef s) _ x e in
     let v = bind_ok (taking.natural low limit a.0.1) _ x a.2 in
@@ -58,15 +58,15 @@ term_again limit low s t z small i p e =
     (λ s2 e2. record { at = s2; is = refl; rest = e2 }))
 
 terms_takes : (limit : ℕ) (s : Spot) (x : List (ℕ × ℤ) × Spot) → line.terms limit s ≡ Ok x → Takes s (flat_map spelled.term x.0) x.1 × AreTermsTo limit x.0
-terms_takes limit s x e = many_takes (line.term limit) line.low_behind spelled.term (IsTerm limit) (term_takes limit) (length s.rest) 0 s x e
+terms_takes limit s x e = many_takes number_behind_space (line.term limit) line.low_behind spelled.term (IsTerm limit) (term_takes limit) (length s.rest) 0 s x e
 
 spaced : (limit low : ℕ) (t : ℕ × ℤ) (z : List ℕ) → IsTerm limit low t → number_behind_space (spelled.term t ++ z) ≡ true
 spaced limit low t z i = ap number_behind_space (append_assoc (spelled.signed t.1) (spelled.natural t.0) z) ∙ signed_begins t.1 (spelled.natural t.0 ++ z) (omega (arith, i.3))
 
 terms_again : (limit : ℕ) (s : Spot) (ts : List (ℕ × ℤ)) (z : List ℕ) → limit ≤ 2 ^ 20 → AreTermsTo limit ts → Stops z → s.rest ≡ flat_map spelled.term ts ++ z → Reads (line.terms limit s) ts z
 terms_again limit s ts z small c stop e =
-    many_again (line.term limit) line.low_behind spelled.term (IsTerm limit) (λ low s1 t z1 i p e1. term_again limit low s1 t z1 small i p e1) (λ t z1. refl) (λ low t z1 i. spaced limit low t z1 i) (length s.rest) 0 s ts z c
-    (room spelled.term (λ t. omega (arith, length-append (spelled.signed t.1) (spelled.natural t.0))) ts s z e) stop e
+    many_again number_behind_space (line.term limit) line.low_behind spelled.term (IsTerm limit) Parted (λ low s1 t z1 i p e1. term_again limit low s1 t z1 small i p e1) (λ t z1. refl) (λ low t z1 i. spaced limit low t z1 i) (length s.rest) 0 s ts z c
+    (room spelled.term (λ t. omega (arith, length-append (spelled.signed t.1) (spelled.natural t.0))) ts s z e) stop.parted stop.no_more e
 
 -- ---- linear forms
 

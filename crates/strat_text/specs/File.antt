@@ -9,6 +9,7 @@ use Rattle.strat_words.specs.Many.{times}
 use Rattle.strat_words.specs.Taking.{count}
 use Rattle.strat_text.specs.Tree.{tree}
 use Rattle.strat_text.specs.Proof.{proof}
+use Rattle.strat_text.specs.Sections.{Sections}
 use Rattle.strat_text.specs.declared.section.Section.{Section}
 use Rattle.strat_text.specs.declared.section.Section.TheVariants.{Claimed, Unknown}
 
@@ -42,50 +43,57 @@ verdict_of word =
     else (if bytes_eq word (codes "unknown") then Some None else None))
 
 -- what stands behind the line `goal K sat` or `goal K unsat`, which is the line of that number
-unfoldable pub claimed : Side → ℕ → Spot → Taken Section
-claimed side line s = do
+unfoldable pub claimed : ℕ → Side → ℕ → Spot → Taken Section
+claimed version side line s = do
   ts ← turns s
   t ← tree ts.0 0 ts.1
-  p ← proof t.1
+  p ← proof version t.1
   Ok (Claimed side ts.0 t.0 p.0 line, p.1)
 
-abbrev pub section_of : Option Side → ℕ → Spot → Taken Section
-section_of None line s = Ok (Unknown, s)
-section_of (Some side) line s = claimed side line s
+abbrev pub section_of : ℕ → Option Side → ℕ → Spot → Taken Section
+section_of version None line s = Ok (Unknown, s)
+section_of version (Some side) line s = claimed version side line s
 
 -- `goal K VERDICT` and what follows
-unfoldable pub section : ℕ → Spot → Taken Section
-section number s = do
+unfoldable pub section : ℕ → ℕ → Spot → Taken Section
+section version number s = do
   w ← is (codes "goal") (first s)
   k ← is (decimal number) (next w)
   word ← next k
   v ← fits (verdict_of word.0) word.1
   after ← ends v.1
-  section_of v.0 s.line after
+  section_of version v.0 s.line after
 
 -- ---- the file
 
 abbrev pub next_number : ℕ → Section → ℕ
 next_number number x = number + 1
 
+-- the versions that there are
+abbrev pub version_of : List ℕ → Option ℕ
+version_of word = if bytes_eq word (codes "1") then Some 1 else (if bytes_eq word (codes "2") then Some 2 else None)
+
+abbrev pub version : Spot → Taken ℕ
+version s = next s >>= λ w. fits (version_of w.0) w.1
+
 -- nothing stands behind the last line
-abbrev pub nothing_left : List Section → Spot → List ℕ → Read (List Section)
+abbrev pub nothing_left : Sections → Spot → List ℕ → Read Sections
 nothing_left xs s [] = Ok xs
 nothing_left xs s (b ∷ z) = Err (next_place s)
 
-unfoldable pub file : Spot → Read (List Section)
+unfoldable pub file : Spot → Read Sections
 file s = do
   w ← is (codes "simsat-strategy") (first s)
-  v ← is (codes "1") (next w)
-  one ← ends v
+  v ← version w
+  one ← ends v.1
   g ← is (codes "goals") (first one)
   n ← count 0 g
   two ← ends n.1
-  xs ← times section next_number n.0 0 two
+  xs ← times (section v.0) next_number n.0 0 two
   e ← is (codes "end") (first xs.1)
   after ← ends e
-  nothing_left xs.0 after after.rest
+  nothing_left (record { version = v.0; list = xs.0 }) after after.rest
 
 -- The sections that the bytes spell, or the place of the first fault.
-abbrev pub reading : List ℕ → Read (List Section)
+abbrev pub reading : List ℕ → Read Sections
 reading bytes = file (start bytes)

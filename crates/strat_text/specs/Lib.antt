@@ -2,6 +2,8 @@ pub mod Line
 pub mod Proof
 pub mod Written
 pub mod Tree
+pub mod Sections
 pub mod File
 pub mod Spelling
 pub mod Seen
+pub mod Fault

@@ -1,14 +1,19 @@
 -- The lines of a proof, and the linear forms in them.
-use Rattle.std.specs.Prelude.{ℕ, ◌+◌, ◌^◌, if◌then◌else◌, List, length, codes, Result, Ok, Err, ℤ}
+use Rattle.std.specs.Prelude.{ℕ, ◌+◌, ◌^◌, if◌then◌else◌, List, length, codes, Option, Some, None, option_and_then, Result, Ok, Err, ℤ}
 use Rattle.std.specs.Str.{bytes_eq}
 use Rattle.lin_term.specs.Form.{Form}
 use Rattle.lin_term.specs.declared.lit.Lit.{Lit}
 use Rattle.lin_term.specs.declared.lit.Lit.TheVariants.{AtLeast, Above, Divides, NotDivides}
 use Rattle.cube_rules.specs.declared.step.Step.{Step}
-use Rattle.cube_rules.specs.declared.step.Step.TheVariants.{Path, Def, Part, Cases, Sum, Split, Cube, Least, False}
-use Rattle.strat_words.specs.Spot.{Spot, Place, Taken, ◌>>=◌, first, next, ends, next_place, last_place, number_follows}
+use Rattle.cube_rules.specs.declared.step.Step.TheVariants.{Path, Def, Part, Cases, Sum, Split, Cube, Least, Learn, False}
+use Rattle.cube_rules.specs.declared.kind.Kind.{Kind}
+use Rattle.cube_rules.specs.declared.kind.Kind.TheVariants as kind
+use Rattle.cube_rules.specs.Limits.{divisor_cap}
+use Rattle.cube_rules.specs.Name.{kind_named}
+use Rattle.strat_words.specs.Spot.{Spot, Place, Taken, ◌>>=◌, first, next, ends, fits, next_place, last_place, goes_on, begins_with_space, number_follows, number_behind_space}
 use Rattle.strat_words.specs.Many.{made, many}
 use Rattle.strat_words.specs.Taking.{natural, signed, index, count, kept, coef}
+use Rattle.strat_text.specs.Sections.{has_kind}
 
 -- ---- linear forms
 
@@ -25,7 +30,7 @@ low_behind low t = t.0 + 1
 
 -- `A V A V ..`, the V's ascending, as long as a number follows
 abbrev pub terms : ℕ → Spot → Taken (List (ℕ × ℤ))
-terms limit s = many (term limit) low_behind (length s.rest) 0 s
+terms limit s = many number_behind_space (term limit) low_behind (length s.rest) 0 s
 
 -- `C A V A V ..`
 unfoldable pub row : ℕ → Spot → Taken Form
@@ -53,12 +58,19 @@ literal s = next s >>= λ w. literal_of w.0 w.1
 abbrev pub any_index : Unit {0} → Spot → Taken ℕ
 any_index _ s = index s
 
-abbrev pub unchanged : Unit {0} → ℕ → Unit {0}
-unchanged u i = u
+abbrev pub any_literal : Unit {0} → Spot → Taken Lit
+any_literal _ s = literal s
+
+abbrev pub unchanged : {A : Type 0} → Unit {0} → A → Unit {0}
+unchanged u x = u
 
 -- indices, as long as a number follows
 abbrev pub indices : Spot → Taken (List ℕ)
-indices s = many any_index unchanged (length s.rest) tt s
+indices s = many number_behind_space any_index unchanged (length s.rest) tt s
+
+-- literals, as long as the line goes on
+abbrev pub literals : Spot → Taken (List Lit)
+literals s = many begins_with_space any_literal unchanged (length s.rest) tt s
 
 abbrev pub two_indices : Spot → Result (ℕ × ℕ × Spot) Place
 two_indices s = do
@@ -83,30 +95,38 @@ sum_line s = do
   f ← index p.1
   q ← kept f.1
   h ← index q.1
-  g ← signed (2 ^ 105 + 1) h.1
+  g ← signed (divisor_cap + 1) h.1
   Ok (Sum p.0 f.0 q.0 h.0 g.0, g.1)
 
 -- one index or more
 unfoldable pub cube_line : Spot → Taken Step
 cube_line s = if number_follows s then made Cube (indices s) else Err (next_place s)
 
--- what stands behind the first word of a proof line
-unfoldable pub step_of : List ℕ → Spot → Taken Step
-step_of name s =
-    if bytes_eq name (codes "path") then made Path (index s)
-    else (if bytes_eq name (codes "def") then two Def (two_indices s)
-    else (if bytes_eq name (codes "part") then two Part (two_indices s)
-    else (if bytes_eq name (codes "cases") then two Cases (index_and_count s)
-    else (if bytes_eq name (codes "sum") then sum_line s
-    else (if bytes_eq name (codes "split") then made Split (literal s)
-    else (if bytes_eq name (codes "cube") then cube_line s
-    else (if bytes_eq name (codes "least") then two Least (index_and_count s)
-    else (if bytes_eq name (codes "false") then made False (index s)
-    else Err (last_place s)))))))))
+-- one literal or more
+unfoldable pub learn_line : Spot → Taken Step
+learn_line s = if goes_on s then made Learn (literals s) else Err (next_place s)
 
-unfoldable pub step : Spot → Taken Step
-step s = do
+-- what stands behind the first word of a line
+abbrev pub step_of : Kind → Spot → Taken Step
+step_of kind.Path s = made Path (index s)
+step_of kind.Def s = two Def (two_indices s)
+step_of kind.Part s = two Part (two_indices s)
+step_of kind.Cases s = two Cases (index_and_count s)
+step_of kind.Sum s = sum_line s
+step_of kind.Split s = made Split (literal s)
+step_of kind.Cube s = cube_line s
+step_of kind.Least s = two Least (index_and_count s)
+step_of kind.Learn s = learn_line s
+step_of kind.False s = made False (index s)
+
+-- the kind of a line of that version with this first word
+abbrev pub kind_in : ℕ → List ℕ → Option Kind
+kind_in version word = option_and_then (λ k. if has_kind version k then Some k else None) (kind_named word)
+
+unfoldable pub step : ℕ → Spot → Taken Step
+step version s = do
   w ← first s
-  x ← step_of w.0 w.1
+  k ← fits (kind_in version w.0) w.1
+  x ← step_of k.0 k.1
   after ← ends x.1
   Ok (x.0, after)

@@ -6,13 +6,16 @@ use Rattle.lin_term.specs.Move.{Move}
 use Rattle.lin_term.specs.declared.lit.Lit.{Lit}
 use Rattle.lin_term.specs.declared.lit.Lit.TheVariants.{AtLeast, Above, Divides, NotDivides}
 use Rattle.cube_rules.specs.declared.step.Step.{Step}
-use Rattle.cube_rules.specs.declared.step.Step.TheVariants.{Path, Def, Part, Cases, Sum, Split, Cube, Least, False}
+use Rattle.cube_rules.specs.declared.step.Step.TheVariants.{Path, Def, Part, Cases, Sum, Split, Cube, Least, Learn, False}
+use Rattle.cube_rules.specs.Lines.{kind_of}
+use Rattle.cube_rules.specs.Name.{word_of}
 use Rattle.game_tree.specs.declared.tree.Tree.{Tree, fold-Tree}
 use Rattle.game_tree.specs.declared.tree.Branch.{Branch, fold-Branch}
 use Rattle.game_tree.specs.declared.tree.Tree.TheOpen.{Tree-F, Branch-F}
 use Rattle.dom_core.specs.declared.Side.{Side}
 use Rattle.dom_core.specs.declared.Side.TheVariants.{Exists, Forall}
 pub use Rattle.strat_words.specs.Spelled.{natural, signed}
+use Rattle.strat_text.specs.Sections.{Sections}
 use Rattle.strat_text.specs.declared.section.Section.{Section}
 use Rattle.strat_text.specs.declared.section.Section.TheVariants.{Claimed, Unknown}
 
@@ -30,17 +33,6 @@ literal (Above r) = codes " >" ++ row r
 literal (Divides d r) = codes " |" ++ (natural d ++ row r)
 literal (NotDivides d r) = codes " !|" ++ (natural d ++ row r)
 
-abbrev pub name : Step → List ℕ
-name (Path k) = codes "path"
-name (Def v i) = codes "def"
-name (Part f i) = codes "part"
-name (Cases f n) = codes "cases"
-name (Sum p f q h g) = codes "sum"
-name (Split l) = codes "split"
-name (Cube fs) = codes "cube"
-name (Least v n) = codes "least"
-name (False f) = codes "false"
-
 abbrev pub arguments : Step → List ℕ
 arguments (Path k) = natural k
 arguments (Def v i) = natural v ++ natural i
@@ -50,10 +42,11 @@ arguments (Sum p f q h g) = signed p ++ (natural f ++ (signed q ++ (natural h ++
 arguments (Split l) = literal l
 arguments (Cube fs) = flat_map natural fs
 arguments (Least v n) = natural v ++ natural n
+arguments (Learn ls) = flat_map literal ls
 arguments (False f) = natural f
 
 abbrev pub step : Step → List ℕ
-step x = name x ++ (arguments x ++ 10 ∷ [])
+step x = word_of (kind_of x) ++ (arguments x ++ 10 ∷ [])
 
 abbrev pub proof : List Step → List ℕ
 proof xs = codes "proof" ++ (natural (length xs) ++ (10 ∷ flat_map step xs))
@@ -103,5 +96,5 @@ abbrev pub sections_from : ℕ → List Section → List ℕ
 sections_from number [] = []
 sections_from number (x ∷ xs) = section number x ++ sections_from (number + 1) xs
 
-abbrev pub spelling : List Section → List ℕ
-spelling xs = codes "simsat-strategy 1" ++ (10 ∷ (codes "goals" ++ (natural (length xs) ++ (10 ∷ (sections_from 0 xs ++ (codes "end" ++ 10 ∷ []))))))
+abbrev pub spelling : Sections → List ℕ
+spelling xs = codes "simsat-strategy" ++ (natural xs.version ++ (10 ∷ (codes "goals" ++ (natural (length xs.list) ++ (10 ∷ (sections_from 0 xs.list ++ (codes "end" ++ 10 ∷ [])))))))

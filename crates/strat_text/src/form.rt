@@ -71,7 +71,8 @@ fn literal_of<'a>(
     mark: &[u8],
     at: Cursor<'a>,
 ) -> Result<(Lit, Cursor<'a>), FileFault>
-    ensures { Gives (λ x. (x.0, spot x.1)) result (spec.literal_of mark.now (spot at.entry)) }
+    ensures gives { Gives (λ x. (x.0, spot x.1)) result (spec.literal_of mark.now (spot at.entry)) }
+    ensures shorter { IfOk result (λ x. length x.1.rest.now ≤ length at.entry.rest.now) }
 {
     if mark == b">=".as_slice() {
         let (form, after) = row(alloc, at, VARIABLES)?;
@@ -95,7 +96,8 @@ fn literal_of<'a>(
 /// A literal: its mark, and its form.
 #[tactic(auto, unfolding(crate::specs::Line::literal))]
 pub fn literal(alloc: Global, at: Cursor<'_>) -> Result<(Lit, Cursor<'_>), FileFault>
-    ensures { Gives (λ x. (x.0, spot x.1)) result (spec.literal (spot at.entry)) }
+    ensures gives { Gives (λ x. (x.0, spot x.1)) result (spec.literal (spot at.entry)) }
+    ensures shorter { IfOk result (λ x. length x.1.rest.now < length at.entry.rest.now) }
 {
     let (mark, after) = next(at)?;
     literal_of(alloc, mark, after)

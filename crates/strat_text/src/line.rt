@@ -4,14 +4,16 @@ ghost use Rattle.std.specs.Prelude.{◌≡◌, ◌≤◌, ◌<◌, length, IfOk}
 ghost use Rattle.strat_words.specs.Spot.{Gives};
 ghost use Rattle.strat_words.specs.View.{spot};
 ghost use Rattle.strat_text.specs.Line as spec;
+ghost use Rattle.strat_text.specs.Sections.{has_kind};
 
 use crate::form::literal;
-use cube_rules::Step;
+use cube_rules::{DIVISOR_CAP, Kind, Step};
+use lin_term::Lit;
 use sqlite_items::Items;
 use std::alloc::Global;
 use strat_words::{
-    Cursor, FileFault, count, ends, first, index, kept, last_fault, next_fault, number_follows,
-    signed,
+    Cursor, FileFault, count, ends, first, goes_on, index, kept, last_fault, next_fault,
+    number_follows, signed,
 };
 
 fn indices(alloc: Global, at: Cursor<'_>) -> Result<(Items<u32>, Cursor<'_>), FileFault>
@@ -21,6 +23,19 @@ fn indices(alloc: Global, at: Cursor<'_>) -> Result<(Items<u32>, Cursor<'_>), Fi
     let mut rest = at;
     while number_follows(rest) {
         let (item, after) = index(rest)?;
+        all.push(item)?;
+        rest = after;
+    }
+    Ok((all, rest))
+}
+
+fn literals(alloc: Global, at: Cursor<'_>) -> Result<(Items<Lit>, Cursor<'_>), FileFault>
+    ensures { Gives (λ x. (x.0, spot x.1)) result (spec.literals (spot at.entry)) }
+{
+    let mut all = Items::new(alloc);
+    let mut rest = at;
+    while goes_on(rest) {
+        let (item, after) = literal(alloc, rest)?;
         all.push(item)?;
         rest = after;
     }
@@ -43,9 +58,6 @@ fn parts(at: Cursor<'_>) -> Result<(u32, u64, Cursor<'_>), FileFault>
     Ok((a, n, after))
 }
 
-/// One past the greatest divisor of a sum, 2^105.
-const PAST_DIVISOR: u128 = 40_564_819_207_303_340_847_894_502_572_033;
-
 #[tactic(auto, unfolding(crate::specs::Line::sum_line))]
 fn sum_line(at: Cursor<'_>) -> Result<(Step, Cursor<'_>), FileFault>
     ensures { Gives (λ x. (x.0, spot x.1)) result (spec.sum_line (spot at.entry)) }
@@ -54,7 +66,7 @@ fn sum_line(at: Cursor<'_>) -> Result<(Step, Cursor<'_>), FileFault>
     let (f, after) = index(after)?;
     let (q, after) = kept(after)?;
     let (h, after) = index(after)?;
-    let (g, after) = signed(after, PAST_DIVISOR)?;
+    let (g, after) = signed(after, DIVISOR_CAP + 1)?;
     Ok((Step::Sum(p, f, q, h, g), after))
 }
 
@@ -69,47 +81,86 @@ fn cube_line(alloc: Global, at: Cursor<'_>) -> Result<(Step, Cursor<'_>), FileFa
     Ok((Step::Cube(facts), after))
 }
 
-#[tactic(auto, unfolding(crate::specs::Line::step_of))]
-fn step_of<'a>(alloc: Global, name: &[u8], at: Cursor<'a>) -> Result<(Step, Cursor<'a>), FileFault>
-    ensures { Gives (λ x. (x.0, spot x.1)) result (spec.step_of name.now (spot at.entry)) }
+#[tactic(auto, unfolding(crate::specs::Line::learn_line))]
+fn learn_line(alloc: Global, at: Cursor<'_>) -> Result<(Step, Cursor<'_>), FileFault>
+    ensures { Gives (λ x. (x.0, spot x.1)) result (spec.learn_line (spot at.entry)) }
 {
-    if name == b"path".as_slice() {
-        let (k, after) = index(at)?;
-        Ok((Step::Path(k), after))
-    } else if name == b"def".as_slice() {
-        let (v, i, after) = two(at)?;
-        Ok((Step::Def(v, i), after))
-    } else if name == b"part".as_slice() {
-        let (f, i, after) = two(at)?;
-        Ok((Step::Part(f, i), after))
-    } else if name == b"cases".as_slice() {
-        let (f, n, after) = parts(at)?;
-        Ok((Step::Cases(f, n), after))
-    } else if name == b"sum".as_slice() {
-        sum_line(at)
-    } else if name == b"split".as_slice() {
-        let (lit, after) = literal(alloc, at)?;
-        Ok((Step::Split(lit), after))
-    } else if name == b"cube".as_slice() {
-        cube_line(alloc, at)
-    } else if name == b"least".as_slice() {
-        let (v, n, after) = parts(at)?;
-        Ok((Step::Least(v, n), after))
-    } else if name == b"false".as_slice() {
-        let (f, after) = index(at)?;
-        Ok((Step::False(f), after))
-    } else {
-        Err(last_fault(at))
+    if !goes_on(at) {
+        return Err(next_fault(at));
+    }
+    let (lits, after) = literals(alloc, at)?;
+    Ok((Step::Learn(lits), after))
+}
+
+fn step_of<'a>(alloc: Global, kind: Kind, at: Cursor<'a>) -> Result<(Step, Cursor<'a>), FileFault>
+    ensures { Gives (λ x. (x.0, spot x.1)) result (spec.step_of kind (spot at.entry)) }
+{
+    match kind {
+        Kind::Path => {
+            let (k, after) = index(at)?;
+            Ok((Step::Path(k), after))
+        }
+        Kind::Def => {
+            let (v, i, after) = two(at)?;
+            Ok((Step::Def(v, i), after))
+        }
+        Kind::Part => {
+            let (f, i, after) = two(at)?;
+            Ok((Step::Part(f, i), after))
+        }
+        Kind::Cases => {
+            let (f, n, after) = parts(at)?;
+            Ok((Step::Cases(f, n), after))
+        }
+        Kind::Sum => sum_line(at),
+        Kind::Split => {
+            let (lit, after) = literal(alloc, at)?;
+            Ok((Step::Split(lit), after))
+        }
+        Kind::Cube => cube_line(alloc, at),
+        Kind::Least => {
+            let (v, n, after) = parts(at)?;
+            Ok((Step::Least(v, n), after))
+        }
+        Kind::Learn => learn_line(alloc, at),
+        Kind::False => {
+            let (f, after) = index(at)?;
+            Ok((Step::False(f), after))
+        }
     }
 }
 
-/// A line of a proof.
+/// Whether the version of the file has lines of the kind: `learn` came with version 2.
+fn has_kind(version: u32, kind: Kind) -> bool
+    ensures { result ≡ has_kind version kind }
+{
+    match kind {
+        Kind::Learn => version >= 2,
+        _ => true,
+    }
+}
+
+fn kind_in(version: u32, word: &[u8]) -> Option<Kind>
+    ensures { result ≡ spec.kind_in version word.now }
+{
+    let kind = Kind::named(word)?;
+    if has_kind(version, kind) {
+        Some(kind)
+    } else {
+        None
+    }
+}
+
+/// A line of a proof in a file of that version.
 #[tactic(auto, unfolding(crate::specs::Line::step))]
-pub fn step(alloc: Global, at: Cursor<'_>) -> Result<(Step, Cursor<'_>), FileFault>
-    ensures { Gives (λ x. (x.0, spot x.1)) result (spec.step (spot at.entry)) }
+pub fn step(alloc: Global, version: u32, at: Cursor<'_>) -> Result<(Step, Cursor<'_>), FileFault>
+    ensures { Gives (λ x. (x.0, spot x.1)) result (spec.step version (spot at.entry)) }
 {
     let (name, after) = first(at)?;
-    let (step, after) = step_of(alloc, name, after)?;
+    let Some(kind) = kind_in(version, name) else {
+        return Err(last_fault(after));
+    };
+    let (step, after) = step_of(alloc, kind, after)?;
     let after = ends(after)?;
     Ok((step, after))
 }

@@ -1,6 +1,7 @@
 //! What a strategy file says of the goals of a script.
 
 ghost use Rattle.std.specs.Prelude.{◌≡◌, ◌++◌, ◌∷◌, [], OnOk, OnErr};
+ghost use Rattle.strat_text.specs.Sections.{IsVersion, HasLines, IsVersioned};
 
 use cube_rules::Step;
 use game_tree::{Side, Tree};
@@ -28,51 +29,71 @@ pub enum Section {
     Unknown,
 }
 
-/// The sections of a file, one for each goal.
+/// The sections of a file, one for each goal, and the version of the file, 1 or 2. In version 1 no proof has a `learn` line.
 #[derive(Debug, Drop)]
 pub struct Sections {
-    all: Items<Section>,
+    version: u32,
+    list: Items<Section>,
 }
 
 impl Model for Sections {
-    ghost use Rattle.std.specs.Prelude.{List};
     ghost use Rattle.std.specs.Coded.{codes};
     ghost use Rattle.game_tree.specs.contracts.tree.Tree as tree;
-    ghost use Rattle.strat_text.specs.declared.section.Section.{Section};
+    ghost use Rattle.strat_text.specs.Sections.{Sections, IsVersioned};
 
-    ghost Value = { List Section };
+    ghost Value = { Sections };
 
     ghost coded = { Prim.hlevel (codes, tree.the_row.coded) };
 
-    ghost view = { λ s. s.all };
+    ghost view = { λ s. record { version = s.version; list = s.list } };
+
+    ghost invariant = { λ s. IsVersioned (record { version = s.version; list = s.list }) };
 }
 
 impl Sections {
-    /// No section.
-    pub fn new(alloc: Global) -> Sections
-        ensures { result ≡ [] }
+    /// No section, in a file of version 1 or 2.
+    pub fn new(alloc: Global, version: u32) -> Sections
+        requires { IsVersion version }
+        ensures { result ≡ record { version = version; list = [] } }
     {
-        Sections {
-            all: Items::new(alloc),
-        }
+        Sections::from_parts(version, Items::new(alloc))
     }
 
-    /// One more section at the end; refuses only for memory, and then the sections are as before, and the new one is
-    /// dropped.
-    pub fn push(&mut self, section: Section) -> Result<(), Memory>
-        ensures ok { OnOk result (self.new ≡ self.old ++ section ∷ []) }
-        ensures err { OnErr result (self.new ≡ self.old) }
+    /// These sections, in a file of version 1 or 2; in version 1 no proof has a `learn` line.
+    pub fn from_parts(version: u32, list: Items<Section>) -> Sections
+        requires { IsVersioned (record { version = version; list = list }) }
+        ensures { result ≡ record { version = version; list = list } }
     {
-        match self.all.push(section) {
+        Sections { version, list }
+    }
+
+    /// One more section at the end, in version 1 without a `learn` line; refuses only for memory, and then the sections are
+    /// as before, and the new one is dropped.
+    pub fn push(&mut self, section: Section) -> Result<(), Memory>
+        requires { HasLines self.old.version section }
+        ensures version { self.new.version ≡ self.old.version }
+        ensures ok { OnOk result (self.new.list ≡ self.old.list ++ section ∷ []) }
+        ensures err { OnErr result (self.new.list ≡ self.old.list) }
+    {
+        match self.list.push(section) {
             Ok(()) => Ok(()),
             Err(_) => Err(Memory),
         }
     }
 
+    /// The version of the file, 1 or 2.
+    pub fn version(&self) -> u32
+        ensures value { result ≡ self.now.version }
+        ensures known { IsVersion result }
+    {
+        self.version
+    }
+
     /// The sections in order.
     pub fn as_slice(&self) -> &[Section]
-        ensures { result.now ≡ self.now }
+        ensures list { result.now ≡ self.now.list }
+        ensures versioned { IsVersioned self.now }
     {
-        self.all.as_slice()
+        self.list.as_slice()
     }
 }

@@ -63,6 +63,15 @@ fn put_literal(out: &mut Vec<u8>, lit: &Lit) -> Result<(), AllocError>
     }
 }
 
+fn put_literals(out: &mut Vec<u8>, lits: &[Lit]) -> Result<(), AllocError>
+    ensures { OnOk result (out.new.items ≡ out.old.items ++ flat_map spelled.literal lits.now) }
+{
+    for lit in lits {
+        put_literal(out, lit)?;
+    }
+    Ok(())
+}
+
 fn put_indices(out: &mut Vec<u8>, facts: &[u32]) -> Result<(), AllocError>
     ensures { OnOk result (out.new.items ≡ out.old.items ++ flat_map spelled.natural facts.now) }
 {
@@ -102,22 +111,6 @@ fn put_sum(
     Ok(())
 }
 
-fn put_name(out: &mut Vec<u8>, step: &Step) -> Result<(), AllocError>
-    ensures { OnOk result (out.new.items ≡ out.old.items ++ spelled.name step.now) }
-{
-    match step {
-        Step::Path(_) => out.extend_from_slice(b"path"),
-        Step::Def(..) => out.extend_from_slice(b"def"),
-        Step::Part(..) => out.extend_from_slice(b"part"),
-        Step::Cases(..) => out.extend_from_slice(b"cases"),
-        Step::Sum(..) => out.extend_from_slice(b"sum"),
-        Step::Split(_) => out.extend_from_slice(b"split"),
-        Step::Cube(_) => out.extend_from_slice(b"cube"),
-        Step::Least(..) => out.extend_from_slice(b"least"),
-        Step::False(_) => out.extend_from_slice(b"false"),
-    }
-}
-
 fn put_arguments(out: &mut Vec<u8>, step: &Step) -> Result<(), AllocError>
     ensures { OnOk result (out.new.items ≡ out.old.items ++ spelled.arguments step.now) }
 {
@@ -130,6 +123,7 @@ fn put_arguments(out: &mut Vec<u8>, step: &Step) -> Result<(), AllocError>
         Step::Split(lit) => put_literal(out, lit),
         Step::Cube(facts) => put_indices(out, facts.as_slice()),
         Step::Least(v, n) => put_two(out, *v as u64, *n),
+        Step::Learn(lits) => put_literals(out, lits.as_slice()),
         Step::False(f) => put_natural(out, *f as u64),
     }
 }
@@ -145,7 +139,7 @@ fn put_two(out: &mut Vec<u8>, a: u64, b: u64) -> Result<(), AllocError>
 fn put_step(out: &mut Vec<u8>, step: &Step) -> Result<(), AllocError>
     ensures { OnOk result (out.new.items ≡ out.old.items ++ spelled.step step.now) }
 {
-    put_name(out, step)?;
+    out.extend_from_slice(step.kind().name().as_bytes())?;
     put_arguments(out, step)?;
     out.push(b'\n')?;
     Ok(())
@@ -299,22 +293,24 @@ fn put_sections(out: &mut Vec<u8>, sections: &[Section]) -> Result<(), AllocErro
     Ok(())
 }
 
-/// The one spelling of sections that can be written (`AreSections`); refuses only for memory.
+/// The one spelling of sections that can be written (`AreSections`), in their version; refuses only for memory.
 pub fn write_file(alloc: Global, sections: &Sections) -> Result<Vec<u8>, Memory>
-    requires { AreSections sections.now }
+    requires { AreSections sections.now.list }
     ensures value { IfOk result (λ v. v.items ≡ spelled.spelling sections.now) }
     ensures spells { IfOk result (λ v. Spells v.items sections.now) }
 {
-    match spelling(alloc, sections.as_slice()) {
+    match spelling(alloc, sections.version(), sections.as_slice()) {
         Ok(bytes) => Ok(bytes),
         Err(_) => Err(Memory),
     }
 }
 
-fn spelling(alloc: Global, sections: &[Section]) -> Result<Vec<u8>, AllocError>
-    ensures { IfOk result (λ v. v.items ≡ spelled.spelling sections.now) }
+fn spelling(alloc: Global, version: u32, sections: &[Section]) -> Result<Vec<u8>, AllocError>
+    ensures { IfOk result (λ v. v.items ≡ spelled.spelling (record { version = version; list = sections.now })) }
 {
-    let mut out = Vec::from_slice(alloc, b"simsat-strategy 1\ngoals")?;
+    let mut out = Vec::from_slice(alloc, b"simsat-strategy")?;
+    put_natural(&mut out, version as u64)?;
+    out.extend_from_slice(b"\ngoals")?;
     put_natural(&mut out, sections.len() as u64)?;
     out.push(b'\n')?;
     put_sections(&mut out, sections)?;

@@ -2,11 +2,11 @@
 use Rattle.std.proofs.Common.{◌≡◌, ℕ, zero, suc, ◌≤◌, ◌<◌, Bool, true, false, cond, List, [], ◌∷◌, ◌++◌, length, Result, Ok, refl, sym, ap, subst, ◌∙◌, append_assoc, arith, inl, inr, ◌⊎◌}
 use Rattle.std.specs.List.{flat_map}
 use Rattle.std.proofs.lemmas.List.Concat.{flat_map-cons}
-use Rattle.strat_words.specs.Spot.{Spot, Place, Taken, ◌>>=◌, number_follows, number_behind_space}
+use Rattle.strat_words.specs.Spot.{Spot, Place, Taken, ◌>>=◌, number_behind_space}
 use Rattle.strat_words.specs.Many.{made, many, times, Chain}
 use Rattle.strat_words.proofs.WordLaws.{bind_ok, done, ok_is, made_ok, Takes, Takes-then, Reads, Parted, bind_again, made_again}
 
--- nothing of the line is left
+-- no word and no number goes on here
 pub record Stops (z : List ℕ) : Type 0 where
   pub parted : Parted z
   pub no_more : number_behind_space z ≡ false
@@ -15,16 +15,16 @@ cond_ok : {A : Type 0} (b : Bool) (x : Result A Place) (y z : A) → cond b x (O
 cond_ok true x y z e = inl (refl, e)
 cond_ok false x y z e = inr (refl, ok_is y z e)
 
-module _ {A K : Type 0} (one : K → Spot → Taken A) (after : K → A → K) (text : A → List ℕ) (Fit : K → A → Type 0) where
+module _ {A K : Type 0} (begins : List ℕ → Bool) (one : K → Spot → Taken A) (after : K → A → K) (text : A → List ℕ) (Fit : K → A → Type 0) where
   pub many_takes : ((k : K) (s : Spot) (x : A × Spot) → one k s ≡ Ok x → Takes s (text x.0) x.1 × Fit k x.0)
-      → (left : ℕ) (k : K) (s : Spot) (x : List A × Spot) → many one after left k s ≡ Ok x → Takes s (flat_map text x.0) x.1 × Chain Fit after k x.0
+      → (left : ℕ) (k : K) (s : Spot) (x : List A × Spot) → many begins one after left k s ≡ Ok x → Takes s (flat_map text x.0) x.1 × Chain Fit after k x.0
   unfolding many
   many_takes h zero k s x e = subst (λ (y : List A × Spot). Takes s (flat_map text y.0) y.1 × Chain Fit after k y.0) (ok_is ([], s) x e) (record { parts = refl }, tt)
   many_takes h (suc left) k s x e =
-      elim (cond_ok (number_follows s) (one k s >>= λ y. made (λ ys. y.0 ∷ ys) (many one after left (after k y.0) y.1)) ([], s) x e) [
+      elim (cond_ok (begins s.rest) (one k s >>= λ y. made (λ ys. y.0 ∷ ys) (many begins one after left (after k y.0) y.1)) ([], s) x e) [
         | inl p ↦
             let a = bind_ok (one k s) _ x p.1 in
-            let b = made_ok (λ ys. a.0.0 ∷ ys) (many one after left (after k a.0.0) a.0.1) x a.2 in
+            let b = made_ok (λ ys. a.0.0 ∷ ys) (many begins one after left (after k a.0.0) a.0.1) x a.2 in
             let ta = h k s a.0 a.1 in
             let tb = many_takes h left (after k a.0.0) a.0.1 b.0 b.1 in
             let whole = Takes-then s (text a.0.0) a.0.1 (flat_map text b.0.0) b.0.1 ta.0 tb.0 in
@@ -33,36 +33,37 @@ module _ {A K : Type 0} (one : K → Spot → Taken A) (after : K → A → K) (
       ]
 
   -- where one begins there is one
-  pub many_some : (left : ℕ) (k : K) (s : Spot) (x : List A × Spot) → 0 < left → number_follows s ≡ true → many one after left k s ≡ Ok x → 1 ≤ length x.0
+  pub many_some : (left : ℕ) (k : K) (s : Spot) (x : List A × Spot) → 0 < left → begins s.rest ≡ true → many begins one after left k s ≡ Ok x → 1 ≤ length x.0
   unfolding many
   many_some zero k s x some on e = absurd (omega (arith, some))
   many_some (suc left) k s x some on e =
-      elim (cond_ok (number_follows s) (one k s >>= λ y. made (λ ys. y.0 ∷ ys) (many one after left (after k y.0) y.1)) ([], s) x e) [
+      elim (cond_ok (begins s.rest) (one k s >>= λ y. made (λ ys. y.0 ∷ ys) (many begins one after left (after k y.0) y.1)) ([], s) x e) [
         | inl p ↦
             let a = bind_ok (one k s) _ x p.1 in
-            let b = made_ok (λ ys. a.0.0 ∷ ys) (many one after left (after k a.0.0) a.0.1) x a.2 in
+            let b = made_ok (λ ys. a.0.0 ∷ ys) (many begins one after left (after k a.0.0) a.0.1) x a.2 in
             subst (λ (y : List A × Spot). 1 ≤ length y.0) b.2 (omega arith)
         | inr p ↦ absurd (let q : true ≡ false = sym on ∙ p.0 in cc)
       ]
 
-  parted_all : ((x : A) (z : List ℕ) → Parted (text x ++ z)) → (xs : List A) (z : List ℕ) → Parted z → Parted (flat_map text xs ++ z)
-  parted_all starts [] z p = p
-  parted_all starts (x ∷ xs) z p = subst Parted (sym (append_assoc (text x) (flat_map text xs) z) ∙ ap (λ (t : List ℕ). t ++ z) (sym (flat_map-cons text x xs))) (starts x (flat_map text xs ++ z))
+  behind_all : (Behind : List ℕ → Type 0) → ((x : A) (z : List ℕ) → Behind (text x ++ z)) → (xs : List A) (z : List ℕ) → Behind z → Behind (flat_map text xs ++ z)
+  behind_all Behind starts [] z p = p
+  behind_all Behind starts (x ∷ xs) z p = subst Behind (sym (append_assoc (text x) (flat_map text xs) z) ∙ ap (λ (t : List ℕ). t ++ z) (sym (flat_map-cons text x xs))) (starts x (flat_map text xs ++ z))
 
-  pub many_again : ((k : K) (s : Spot) (x : A) (z : List ℕ) → Fit k x → Parted z → s.rest ≡ text x ++ z → Reads (one k s) x z)
-      → ((x : A) (z : List ℕ) → Parted (text x ++ z)) → ((k : K) (x : A) (z : List ℕ) → Fit k x → number_behind_space (text x ++ z) ≡ true)
-      → (left : ℕ) (k : K) (s : Spot) (xs : List A) (z : List ℕ) → Chain Fit after k xs → length xs ≤ left → Stops z → s.rest ≡ flat_map text xs ++ z → Reads (many one after left k s) xs z
+  -- what stands behind each of them, another one or the end, is such that the one is read again
+  pub many_again : (Behind : List ℕ → Type 0) → ((k : K) (s : Spot) (x : A) (z : List ℕ) → Fit k x → Behind z → s.rest ≡ text x ++ z → Reads (one k s) x z)
+      → ((x : A) (z : List ℕ) → Behind (text x ++ z)) → ((k : K) (x : A) (z : List ℕ) → Fit k x → begins (text x ++ z) ≡ true)
+      → (left : ℕ) (k : K) (s : Spot) (xs : List A) (z : List ℕ) → Chain Fit after k xs → length xs ≤ left → Behind z → begins z ≡ false → s.rest ≡ flat_map text xs ++ z → Reads (many begins one after left k s) xs z
   unfolding many
-  many_again h starts spaces zero k s [] z c le stop e = record { at = s; is = refl; rest = e }
-  many_again h starts spaces zero k s (x ∷ xs) z c le stop e = absurd (omega (arith, le))
-  many_again h starts spaces (suc left) k s [] z c le stop e =
-      let off : number_follows s ≡ false = ap number_behind_space e ∙ stop.no_more in
-      record { at = s; is = rw off refl; rest = e }
-  many_again h starts spaces (suc left) k s (x ∷ xs) z c le stop e =
+  many_again Behind h starts spaces zero k s [] z c le stop off e = record { at = s; is = refl; rest = e }
+  many_again Behind h starts spaces zero k s (x ∷ xs) z c le stop off e = absurd (omega (arith, le))
+  many_again Behind h starts spaces (suc left) k s [] z c le stop off e =
+      let none : begins s.rest ≡ false = ap begins e ∙ off in
+      record { at = s; is = rw none refl; rest = e }
+  many_again Behind h starts spaces (suc left) k s (x ∷ xs) z c le stop off e =
       let split : s.rest ≡ text x ++ (flat_map text xs ++ z) = e ∙ ap (λ (t : List ℕ). t ++ z) (flat_map-cons text x xs) ∙ append_assoc (text x) (flat_map text xs) z in
-      let on : number_follows s ≡ true = ap number_behind_space split ∙ spaces k x (flat_map text xs ++ z) c.0 in
-      rw on (bind_again (one k s) _ (x ∷ xs) z (h k s x (flat_map text xs ++ z) c.0 (parted_all starts xs z stop.parted) split)
-      (λ s1 e1. made_again (λ ys. x ∷ ys) (many one after left (after k x) s1) (many_again h starts spaces left (after k x) s1 xs z c.1 (omega (arith, le)) stop e1)))
+      let on : begins s.rest ≡ true = ap begins split ∙ spaces k x (flat_map text xs ++ z) c.0 in
+      rw on (bind_again (one k s) _ (x ∷ xs) z (h k s x (flat_map text xs ++ z) c.0 (behind_all Behind starts xs z stop) split)
+      (λ s1 e1. made_again (λ ys. x ∷ ys) (many begins one after left (after k x) s1) (many_again Behind h starts spaces left (after k x) s1 xs z c.1 (omega (arith, le)) stop off e1)))
 
 module _ {A K : Type 0} (one : K → Spot → Taken A) (after : K → A → K) (text : K → A → List ℕ) (Fit : K → A → Type 0) where
   -- the texts, one after the other

@@ -3,3 +3,4 @@ pub mod Loops
 pub mod WordLaws
 pub mod Laws
 pub mod Taken
+pub mod Cuts

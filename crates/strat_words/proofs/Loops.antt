@@ -1,9 +1,9 @@
 -- Reading one thing after the other, as a loop does.
-use Rattle.std.proofs.Common.{◌≡◌, ℕ, zero, suc, ◌-◌, ◌+◌, ◌≤◌, ◌<◌, true, false, List, [], ◌∷◌, ◌++◌, length, Ok, Err, refl, sym, ap, ◌∙◌, append_assoc, arith}
+use Rattle.std.proofs.Common.{◌≡◌, ℕ, zero, suc, ◌-◌, ◌+◌, ◌≤◌, ◌<◌, Bool, true, false, List, [], ◌∷◌, ◌++◌, length, Ok, Err, refl, sym, ap, ◌∙◌, append_assoc, arith}
 use Rattle.std.proofs.lemmas.List.{append-nil, length-append}
 use Rattle.strat_words.specs.declared.fault.FileFault.{FileFault}
 use Rattle.strat_words.specs.declared.fault.FileFault.TheVariants as faults
-use Rattle.strat_words.specs.Spot.{Spot, Taken, number_follows, number_behind_space, Fails}
+use Rattle.strat_words.specs.Spot.{Spot, Taken, number_follows, number_behind_space, goes_on, begins_with_space, Fails}
 use Rattle.strat_words.specs.Many.{made, many, times, state_behind}
 
 -- what was read before, and what is still read
@@ -18,34 +18,39 @@ some_left_in : (z : List ℕ) → number_behind_space z ≡ true → 0 < length 
 some_left_in [] on = absurd cc
 some_left_in (c ∷ z) on = omega arith
 
-module _ {A K : Type 0} (one : K → Spot → Taken A) (after : K → A → K) where
+word_left_in : (z : List ℕ) → begins_with_space z ≡ true → 0 < length z
+word_left_in [] on = absurd cc
+word_left_in (c ∷ z) on = omega arith
+
+module _ {A K : Type 0} (begins : List ℕ → Bool) (one : K → Spot → Taken A) (after : K → A → K) where
   -- ---- as many as the line has
 
-  pub many_on : (front : List A) (most i : ℕ) (k : K) (s : Spot) (x : A) (s' : Spot) (total : Taken (List A)) → i < most → number_follows s ≡ true → one k s ≡ Ok (x, s')
-      → with_front front (many one after (most - i) k s) ≡ total → with_front (front ++ x ∷ []) (many one after (most - (i + 1)) (after k x) s') ≡ total
+  pub many_on : (front : List A) (most i : ℕ) (k : K) (s : Spot) (x : A) (s' : Spot) (total : Taken (List A)) → i < most → begins s.rest ≡ true → one k s ≡ Ok (x, s')
+      → with_front front (many begins one after (most - i) k s) ≡ total → with_front (front ++ x ∷ []) (many begins one after (most - (i + 1)) (after k x) s') ≡ total
   unfolding many
   many_on front most i k s x s' total some on h so_far =
       let n : most - i ≡ suc (most - (i + 1)) = omega arith in
-      let e : with_front front (many one after (most - i) k s) ≡ with_front (front ++ x ∷ []) (many one after (most - (i + 1)) (after k x) s') = rw (n, on, h) (regroup front x (many one after (most - (i + 1)) (after k x) s')) in
+      let e : with_front front (many begins one after (most - i) k s) ≡ with_front (front ++ x ∷ []) (many begins one after (most - (i + 1)) (after k x) s') = rw (n, on, h) (regroup front x (many begins one after (most - (i + 1)) (after k x) s')) in
       sym e ∙ so_far
 
-  pub many_fails : (e : FileFault) (front : List A) (most i : ℕ) (k : K) (s : Spot) (total : Taken (List A)) → i < most → number_follows s ≡ true → Fails e (one k s)
-      → with_front front (many one after (most - i) k s) ≡ total → Fails e total
+  pub many_fails : (e : FileFault) (front : List A) (most i : ℕ) (k : K) (s : Spot) (total : Taken (List A)) → i < most → begins s.rest ≡ true → Fails e (one k s)
+      → with_front front (many begins one after (most - i) k s) ≡ total → Fails e total
   unfolding many
   many_fails faults.Memory front most i k s total some on h so_far = tt
   many_fails (faults.Bad l w) front most i k s total some on h so_far =
       let n : most - i ≡ suc (most - (i + 1)) = omega arith in
-      let e : with_front front (many one after (most - i) k s) ≡ Err (record { line = l; word = w }) = rw (n, on, h) refl in
+      let e : with_front front (many begins one after (most - i) k s) ≡ Err (record { line = l; word = w }) = rw (n, on, h) refl in
       sym so_far ∙ e
 
-  pub many_done : (front : List A) (left : ℕ) (k : K) (s : Spot) (total : Taken (List A)) → number_follows s ≡ false
-      → with_front front (many one after left k s) ≡ total → total ≡ Ok (front, s)
+  pub many_done : (front : List A) (left : ℕ) (k : K) (s : Spot) (total : Taken (List A)) → begins s.rest ≡ false
+      → with_front front (many begins one after left k s) ≡ total → total ≡ Ok (front, s)
   unfolding many
   many_done front zero k s total off so_far = sym so_far ∙ ap (λ xs. Ok (xs, s)) (append-nil front)
   many_done front (suc left) k s total off so_far =
-      let e : with_front front (many one after (suc left) k s) ≡ Ok (front, s) = rw off (ap (λ xs. Ok (xs, s)) (append-nil front)) in
+      let e : with_front front (many begins one after (suc left) k s) ≡ Ok (front, s) = rw off (ap (λ xs. Ok (xs, s)) (append-nil front)) in
       sym so_far ∙ e
 
+module _ {A K : Type 0} (one : K → Spot → Taken A) (after : K → A → K) where
   -- ---- a number of them
 
   pub times_on : (front : List A) (count i : ℕ) (k : K) (s : Spot) (x : A) (s' : Spot) (total : Taken (List A)) → i < count → one k s ≡ Ok (x, s')
@@ -75,6 +80,9 @@ module _ {A K : Type 0} (one : K → Spot → Taken A) (after : K → A → K) w
 
 pub some_left : (s : Spot) → number_follows s ≡ true → 0 < length s.rest
 some_left s on = some_left_in s.rest on
+
+pub word_left : (s : Spot) → goes_on s ≡ true → 0 < length s.rest
+word_left s on = word_left_in s.rest on
 
 pub length_more : {A : Type 0} (xs : List A) (x : A) → length (xs ++ x ∷ []) ≡ length xs + 1
 length_more xs x = omega (arith, length-append xs (x ∷ []))

@@ -6,6 +6,7 @@ use Rattle.std.proofs.lemmas.Bool.{eqb-true, ne_eqb}
 use Rattle.std.proofs.lemmas.Slice.Eq.{bytes_eq-Decides}
 use Rattle.std.proofs.lemmas.List.{take-append-drop, take_at, drop_at}
 use Rattle.strat_words.specs.Many.{made}
+pub use Rattle.strat_words.specs.Cut.{Parted}
 use Rattle.strat_words.specs.Spot.{Spot, Place, Taken, Read, ◌>>=◌, word_at, first, next, ends, is, fits, word_in, ended, behind, behind_byte, is_of_word, word_len, next_place, last_place}
 
 -- ---- steps that did not fail
@@ -63,12 +64,7 @@ pub record IsWord (w : List ℕ) : Type 0 where
   pub some : 0 < length w
   pub all : list_all is_of_word w ≡ true
 
--- no word goes on here
-abbrev pub Parted : List ℕ → Type 0
-Parted [] = Unit {0}
-Parted (c ∷ z) = is_of_word c ≡ false
-
-parted_len : (z : List ℕ) → Parted z → word_len z ≡ 0
+pub parted_len : (z : List ℕ) → Parted z → word_len z ≡ 0
 parted_len [] p = refl
 parted_len (c ∷ z) p = rw p refl
 

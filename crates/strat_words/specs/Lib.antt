@@ -4,3 +4,4 @@ pub mod Number
 pub mod Many
 pub mod Taking
 pub mod Spelled
+pub mod Cut

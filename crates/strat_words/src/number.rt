@@ -7,6 +7,8 @@ ghost use Rattle.std.specs.Str.Parse.{digits_value};
 ghost use Rattle.lin_term.specs.Form.{cap};
 ghost use Rattle.strat_words.specs.Number as spec;
 
+use lin_term::CAP;
+
 fn all_digits(word: &[u8]) -> bool
     ensures { result ≡ list_all is_ascii_digit word.now }
 {
@@ -138,11 +140,14 @@ fn within_cap(z: i128) -> i64
     z as i64
 }
 
+/// One past the greatest size of a kept number.
+pub const PAST_CAP: u128 = CAP as u128 + 1;
+
 /// A number other than 0, within the cap.
 pub fn coef_of(word: &[u8]) -> Option<i64>
     ensures { result ≡ spec.coef_of word.now }
 {
-    match signed_of(word, 4_503_599_627_370_497) {
+    match signed_of(word, PAST_CAP) {
         Some(z) => { if z == 0 { None } else { Some(within_cap(z)) } }
         None => None,
     }

@@ -9,7 +9,7 @@ ghost use Rattle.strat_words.specs.declared.fault.FileFault.TheVariants.{Memory}
 
 use crate::cursor::Cursor;
 use crate::fault::FileFault;
-use crate::number::{coef_of, natural_of, signed_of};
+use crate::number::{PAST_CAP, coef_of, natural_of, signed_of};
 use crate::words::{last_fault, next};
 
 /// The next word as a number without a sign, from `low` to below `limit`, of at most 32 digits and no 0 in front of
@@ -45,11 +45,8 @@ pub fn signed(at: Cursor<'_>, limit: u128) -> Result<(i128, Cursor<'_>), FileFau
     }
 }
 
-/// One past the greatest size of a kept number.
-const PAST_CAP: u128 = 4_503_599_627_370_497;
-
 /// One past the greatest index.
-const PAST_INDEX: u128 = 4_294_967_296;
+const PAST_INDEX: u128 = u32::MAX as u128 + 1;
 
 /// The next word as an index, below 2^32; faults as those of `natural`.
 pub fn index(at: Cursor<'_>) -> Result<(u32, Cursor<'_>), FileFault>

@@ -10,7 +10,7 @@ use Rattle.lin_truth.specs.Constant.{is_constant, are_constant}
 use Rattle.lin_truth.specs.Size.{measures, total}
 use Rattle.lin_truth.specs.Truth.{Either, is_boolean, is_formula}
 use Rattle.lin_truth.specs.Formed.{IsFormula, IsNumber, AreFormulas, AreNumbers, OneFree, append_all, not_boolean}
-use Rattle.lin_truth.specs.Goal.{AreKept}
+use Rattle.lin_truth.specs.Goal.{AreGoalTerms}
 use Rattle.term_table.specs.declared.node.Unary.{Unary}
 use Rattle.term_table.specs.declared.node.Unary.TheVariants as unary
 use Rattle.term_table.specs.declared.node.Variadic.{Variadic}
@@ -126,7 +126,7 @@ AllFormed s u [] vs = Unit {0}
 AllFormed s u (x ∷ xs) vs = IsFormed s u x vs × AllFormed s u xs vs
 
 formulas_of : (s : Sort) (xs : List Term) (vs : List VarSort) → AllFormed s sorts.Bool xs vs → total (measures (λ bindings parts. suc (total parts)) (terms_of xs)) ≤ most_nodes
-    → AreFormulas (terms_of xs) s vs × AreKept (terms_of xs)
+    → AreFormulas (terms_of xs) s vs × AreGoalTerms (terms_of xs)
 formulas_of s [] vs all le = (tt, tt)
 formulas_of s (x ∷ xs) vs all le =
     let first = all.0 (omega arith) in
@@ -134,7 +134,7 @@ formulas_of s (x ∷ xs) vs all le =
     ((first.0, rest.0), (first.1, rest.1))
 
 numbers_of : (s : Sort) (xs : List Term) (vs : List VarSort) → AllFormed s sorts.Number xs vs → total (measures (λ bindings parts. suc (total parts)) (terms_of xs)) ≤ most_nodes
-    → AreNumbers (terms_of xs) s vs × AreKept (terms_of xs)
+    → AreNumbers (terms_of xs) s vs × AreGoalTerms (terms_of xs)
 numbers_of s [] vs all le = (tt, tt)
 numbers_of s (x ∷ xs) vs all le =
     let first = all.0 (omega arith) in

@@ -11,7 +11,7 @@ use Rattle.lin_truth.specs.Constant.{is_constant, constant_value}
 use Rattle.lin_truth.specs.Size.{node_count}
 use Rattle.lin_truth.specs.Worked.{worked}
 use Rattle.lin_truth.specs.Formed.{IsNumber, IsNotZero}
-use Rattle.lin_truth.specs.Goal.{IsKept}
+use Rattle.lin_truth.specs.Goal.{IsGoalTerm}
 use Rattle.lin_truth.proofs.Working.{worked_not_zero}
 use Rattle.term_table.specs.declared.node.Unary.{Unary}
 use Rattle.term_table.specs.declared.node.Binary.{Binary}
@@ -32,7 +32,7 @@ sound-true s scope = record { formed = λ frame vs fit le. (tt, tt); fixed = λ 
 pub sound-false : (s : Sort) (scope : Sorts) → Sound s scope (record { sort = sorts.Bool; tree = λ frame n. no })
 sound-false s scope = record { formed = λ frame vs fit le. (tt, tt); fixed = λ f g n m same c. refl }
 
-pub sound-number : (s : Sort) (scope : Sorts) (v : Value) → IsValue s v → IsKept (amount v) → Sound s scope (record { sort = sorts.Number; tree = λ frame n. amount v })
+pub sound-number : (s : Sort) (scope : Sorts) (v : Value) → IsValue s v → IsGoalTerm (amount v) → Sound s scope (record { sort = sorts.Number; tree = λ frame n. amount v })
 sound-number s scope v is kept = record { formed = λ frame vs fit le. (is, kept); fixed = λ f g n m same c. refl }
 
 constant-at : (cs rest : List VarSort) (i : ℕ) (u : VarSort) → i < length cs → ((d : VarSort) → get_or cs i d ≡ u) → (i < length (cs ++ rest)) × (get_or (cs ++ rest) i sorts.Number ≡ u)

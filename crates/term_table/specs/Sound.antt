@@ -10,7 +10,7 @@ use Rattle.lin_truth.specs.Constant.{is_constant}
 use Rattle.lin_truth.specs.Size.{node_count}
 use Rattle.lin_truth.specs.Formed.{IsFormula, IsNumber, IsInt, IsRat, IsNotZero}
 use Rattle.lin_truth.specs.Truth.{Either}
-use Rattle.lin_truth.specs.Goal.{IsKept}
+use Rattle.lin_truth.specs.Goal.{IsGoalTerm}
 use Rattle.term_table.specs.declared.node.Unary.{Unary}
 use Rattle.term_table.specs.declared.node.Unary.TheVariants as unary
 use Rattle.term_table.specs.declared.node.Binary.{Binary}
@@ -29,7 +29,7 @@ IsOf sorts.Number t s vs = IsNumber t s vs
 
 -- where it is not too large: well formed, and with numbers that are kept
 abbrev pub IsFormed : Sort → VarSort → Term → List VarSort → Type 0
-IsFormed s u t vs = node_count t ≤ most_nodes → IsOf u t s vs × IsKept t
+IsFormed s u t vs = node_count t ≤ most_nodes → IsOf u t s vs × IsGoalTerm t
 
 -- it stays well formed below more variables
 abbrev pub StaysFormed : Sort → VarSort → Placed → List VarSort → Type 0

@@ -18,17 +18,17 @@ use crate::amount::Amount;
 use crate::entry::Entry;
 use crate::known::{known_leaf, known_one, known_several, known_two};
 use crate::node::{Node, Variadic};
-use crate::ratio::Ratio;
 use crate::working::worked_out;
 use crate::worth::Worth;
 use crate::written::steps_of;
+use lin_term::Fraction;
 use std::alloc::{AllocError, Global};
 
 /// The most nodes of a constant term that is worked out: those of a goal.
 const MOST_NODES: u32 = 1_048_576;
 
 /// The value of an entry.
-pub fn known_at(entries: &[Entry], entry: u32) -> Option<Ratio>
+pub fn known_at(entries: &[Entry], entry: u32) -> Option<Fraction>
     requires { entry < length entries.now }
     ensures { result ≡ spec_known_at entries.now entry }
 {
@@ -41,7 +41,7 @@ fn known_parts(
     alloc: Global,
     entries: &[Entry],
     parts: &[u32],
-) -> Result<Vec<Option<Ratio>>, AllocError>
+) -> Result<Vec<Option<Fraction>>, AllocError>
     requires { AreBelow (length entries.now) parts.now }
     ensures { IfOk result (λ known. known.items ≡ map (spec_known_at entries.now) parts.now) }
 {
@@ -58,7 +58,7 @@ fn known_whole(
     entries: &[Entry],
     op: Variadic,
     parts: &[u32],
-) -> Result<Option<Ratio>, AllocError>
+) -> Result<Option<Fraction>, AllocError>
     requires { AreBelow (length entries.now) parts.now }
     ensures { IfOk result (λ known. known ≡ spec.known_several op (map (spec_known_at entries.now) parts.now)) }
 {
@@ -79,7 +79,7 @@ fn known_use(
     size: Amount,
     body: u32,
     args: &[u32],
-) -> Result<Option<Ratio>, AllocError>
+) -> Result<Option<Fraction>, AllocError>
     requires entries { AreEntries entries.now }
     requires size { AreSizes size (λ s. scale.size s (used (tree_at (meanings (nodes_of entries.now)) body) (map (tree_at (meanings (nodes_of entries.now))) args.now) top 0)) }
     ensures { IfOk result (IsKnown (used (tree_at (meanings (nodes_of entries.now)) body) (map (tree_at (meanings (nodes_of entries.now))) args.now))) }
@@ -97,7 +97,7 @@ pub fn known_of(
     entries: &[Entry],
     node: &Node,
     size: Amount,
-) -> Result<Option<Ratio>, AllocError>
+) -> Result<Option<Fraction>, AllocError>
     requires parts { HasParts (length entries.now) node.now }
     requires entries { AreEntries entries.now }
     requires size { AreSizes size (λ s. scale.size s (meaning (meanings (nodes_of entries.now)) node.now top 0)) }
@@ -121,7 +121,7 @@ pub fn known_of(
 }
 
 /// What is known of a term of this size with this value.
-pub fn worth_from(size: Amount, known: Option<Ratio>) -> Worth
+pub fn worth_from(size: Amount, known: Option<Fraction>) -> Worth
     ensures { result ≡ (if size.free == 0 then (if nat_le size.nodes most_nodes then value_known known else worths.Large) else worths.Free) }
 {
     if size.free > 0 {
@@ -134,7 +134,7 @@ pub fn worth_from(size: Amount, known: Option<Ratio>) -> Worth
         None => Worth::Wide,
         Some(value) => Worth::Value {
             num: value.num(),
-            den: value.den() as i64,
+            den: value.den(),
         },
     }
 }

@@ -2,7 +2,7 @@
 
 use crate::form::Form;
 use crate::node::Node;
-use crate::ratio::Ratio;
+use lin_term::Fraction;
 
 /// A node, its size as a form over the parameters, and its value as a constant term where it has one and is no larger than
 /// a goal may be.
@@ -10,5 +10,5 @@ use crate::ratio::Ratio;
 pub struct Entry {
     pub node: Node,
     pub form: Form,
-    pub known: Option<Ratio>,
+    pub known: Option<Fraction>,
 }

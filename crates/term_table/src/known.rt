@@ -7,10 +7,11 @@ ghost use Rattle.lin_truth.specs.Worked.{step_two};
 ghost use Rattle.term_table.specs.Known as spec;
 
 use crate::node::{Binary, Leaf, Unary, Variadic};
-use crate::ratio::{Ratio, absolute, div, minus, negative, over, plus, rest, times_each, written};
+use crate::ratio::{absolute, div, minus, negative, over, plus, rest, times_each, written};
+use lin_term::Fraction;
 
 /// The value of a leaf.
-pub fn known_leaf(leaf: &Leaf) -> Option<Ratio>
+pub fn known_leaf(leaf: &Leaf) -> Option<Fraction>
     ensures { result ≡ spec.known_leaf leaf.now }
 {
     match leaf {
@@ -22,7 +23,7 @@ pub fn known_leaf(leaf: &Leaf) -> Option<Ratio>
 }
 
 /// The value of an operator with one part.
-pub fn known_one(op: Unary, x: Option<Ratio>) -> Option<Ratio>
+pub fn known_one(op: Unary, x: Option<Fraction>) -> Option<Fraction>
     ensures { result ≡ spec.known_one op x }
 {
     let Some(x) = x else {
@@ -37,7 +38,7 @@ pub fn known_one(op: Unary, x: Option<Ratio>) -> Option<Ratio>
 }
 
 /// The value of an operator with two parts.
-pub fn known_two(op: Binary, x: Option<Ratio>, y: Option<Ratio>) -> Option<Ratio>
+pub fn known_two(op: Binary, x: Option<Fraction>, y: Option<Fraction>) -> Option<Fraction>
     ensures { result ≡ spec.known_two op x y }
 {
     let Some(x) = x else {
@@ -61,7 +62,7 @@ pub fn known_two(op: Binary, x: Option<Ratio>, y: Option<Ratio>) -> Option<Ratio
     }
 }
 
-fn added(x: Option<Ratio>, y: Option<Ratio>) -> Option<Ratio>
+fn added(x: Option<Fraction>, y: Option<Fraction>) -> Option<Fraction>
     ensures { result ≡ step_two v_plus x y }
 {
     match (x, y) {
@@ -70,7 +71,7 @@ fn added(x: Option<Ratio>, y: Option<Ratio>) -> Option<Ratio>
     }
 }
 
-fn multiplied(x: Option<Ratio>, y: Option<Ratio>) -> Option<Ratio>
+fn multiplied(x: Option<Fraction>, y: Option<Fraction>) -> Option<Fraction>
     ensures { result ≡ step_two v_times x y }
 {
     match (x, y) {
@@ -80,7 +81,7 @@ fn multiplied(x: Option<Ratio>, y: Option<Ratio>) -> Option<Ratio>
 }
 
 /// The sum, two at a time from the left.
-fn sum(parts: &[Option<Ratio>]) -> Option<Ratio>
+fn sum(parts: &[Option<Fraction>]) -> Option<Fraction>
     ensures { result ≡ spec.known_sum parts.now (Some zero_value) }
 {
     let mut all = written(0, 1);
@@ -93,7 +94,7 @@ fn sum(parts: &[Option<Ratio>]) -> Option<Ratio>
 }
 
 /// The product, two at a time from the left.
-fn product(parts: &[Option<Ratio>]) -> Option<Ratio>
+fn product(parts: &[Option<Fraction>]) -> Option<Fraction>
     ensures { result ≡ spec.known_product parts.now (Some one_value) }
 {
     let mut all = written(1, 1);
@@ -106,7 +107,7 @@ fn product(parts: &[Option<Ratio>]) -> Option<Ratio>
 }
 
 /// The value of an operator with any number of parts.
-pub fn known_several(op: Variadic, parts: &[Option<Ratio>]) -> Option<Ratio>
+pub fn known_several(op: Variadic, parts: &[Option<Fraction>]) -> Option<Fraction>
     ensures { result ≡ spec.known_several op parts.now }
 {
     match op {

@@ -6,12 +6,12 @@ ghost use Rattle.term_table.specs.Known.{first_known, rest_known, known_step, kn
 
 use crate::known::{known_leaf, known_one, known_several, known_two};
 use crate::node::{Binary, Unary, Variadic};
-use crate::ratio::Ratio;
 use crate::step::Step;
+use lin_term::Fraction;
 use std::alloc::{AllocError, Global};
 
 /// Takes the value on top.
-fn taken(stack: &mut Vec<Option<Ratio>>) -> Option<Ratio>
+fn taken(stack: &mut Vec<Option<Fraction>>) -> Option<Fraction>
     ensures top { result ≡ first_known (turned stack.old.items) }
     ensures others { turned stack.new.items ≡ rest_known (turned stack.old.items) }
 {
@@ -22,7 +22,7 @@ fn taken(stack: &mut Vec<Option<Ratio>>) -> Option<Ratio>
 }
 
 /// Puts a value on top.
-fn put(stack: &mut Vec<Option<Ratio>>, known: Option<Ratio>) -> Result<(), AllocError>
+fn put(stack: &mut Vec<Option<Fraction>>, known: Option<Fraction>) -> Result<(), AllocError>
     ensures { IfOk result (λ _. turned stack.new.items ≡ known ∷ turned stack.old.items) }
 {
     stack.push(known)?;
@@ -32,9 +32,9 @@ fn put(stack: &mut Vec<Option<Ratio>>, known: Option<Ratio>) -> Result<(), Alloc
 /// Takes so many values, the top one first, or all that there are.
 fn taken_all(
     alloc: Global,
-    stack: &mut Vec<Option<Ratio>>,
+    stack: &mut Vec<Option<Fraction>>,
     count: usize,
-) -> Result<Vec<Option<Ratio>>, AllocError>
+) -> Result<Vec<Option<Fraction>>, AllocError>
     ensures { IfOk result (λ parts. (parts.items ≡ take count (turned stack.old.items)) × (turned stack.new.items ≡ drop count (turned stack.old.items))) }
 {
     let mut parts = Vec::new(alloc);
@@ -47,14 +47,14 @@ fn taken_all(
     Ok(parts)
 }
 
-fn put_one(stack: &mut Vec<Option<Ratio>>, op: Unary) -> Result<(), AllocError>
+fn put_one(stack: &mut Vec<Option<Fraction>>, op: Unary) -> Result<(), AllocError>
     ensures { IfOk result (λ _. turned stack.new.items ≡ known_step (steps_of.One op) (turned stack.old.items)) }
 {
     let part = taken(stack);
     put(stack, known_one(op, part))
 }
 
-fn put_two(stack: &mut Vec<Option<Ratio>>, op: Binary) -> Result<(), AllocError>
+fn put_two(stack: &mut Vec<Option<Fraction>>, op: Binary) -> Result<(), AllocError>
     ensures { IfOk result (λ _. turned stack.new.items ≡ known_step (steps_of.Two op) (turned stack.old.items)) }
 {
     let left = taken(stack);
@@ -62,7 +62,7 @@ fn put_two(stack: &mut Vec<Option<Ratio>>, op: Binary) -> Result<(), AllocError>
     put(stack, known_two(op, left, right))
 }
 
-fn put_choice(stack: &mut Vec<Option<Ratio>>) -> Result<(), AllocError>
+fn put_choice(stack: &mut Vec<Option<Fraction>>) -> Result<(), AllocError>
     ensures { IfOk result (λ _. turned stack.new.items ≡ known_step steps_of.Choice (turned stack.old.items)) }
 {
     let _ = taken(stack);
@@ -73,7 +73,7 @@ fn put_choice(stack: &mut Vec<Option<Ratio>>) -> Result<(), AllocError>
 
 fn put_several(
     alloc: Global,
-    stack: &mut Vec<Option<Ratio>>,
+    stack: &mut Vec<Option<Fraction>>,
     op: Variadic,
     count: usize,
 ) -> Result<(), AllocError>
@@ -83,7 +83,7 @@ fn put_several(
     put(stack, known_several(op, parts.as_slice()))
 }
 
-fn put_binder(stack: &mut Vec<Option<Ratio>>) -> Result<(), AllocError>
+fn put_binder(stack: &mut Vec<Option<Fraction>>) -> Result<(), AllocError>
     ensures { IfOk result (λ _. turned stack.new.items ≡ None ∷ rest_known (turned stack.old.items)) }
 {
     let _ = taken(stack);
@@ -91,7 +91,7 @@ fn put_binder(stack: &mut Vec<Option<Ratio>>) -> Result<(), AllocError>
 }
 
 /// Takes a step.
-fn take_step(alloc: Global, stack: &mut Vec<Option<Ratio>>, step: Step) -> Result<(), AllocError>
+fn take_step(alloc: Global, stack: &mut Vec<Option<Fraction>>, step: Step) -> Result<(), AllocError>
     ensures { IfOk result (λ _. turned stack.new.items ≡ known_step step (turned stack.old.items)) }
 {
     match step {
@@ -106,7 +106,7 @@ fn take_step(alloc: Global, stack: &mut Vec<Option<Ratio>>, step: Step) -> Resul
 }
 
 /// The value of the term that these steps build, where it is a constant term.
-pub fn worked_out(alloc: Global, steps: Vec<Step>) -> Result<Option<Ratio>, AllocError>
+pub fn worked_out(alloc: Global, steps: Vec<Step>) -> Result<Option<Fraction>, AllocError>
     ensures { IfOk result (λ known. known ≡ first_known (known_run steps.items [])) }
 {
     let mut stack = Vec::new(alloc);

@@ -1,11 +1,12 @@
-use Rattle.std.proofs.Common.{◌+◌, ◌∙◌, ap, sym, subst, arith, drop, length, List, ℕ, refl, [], ◌∷◌, ◌++◌}
+use Rattle.std.proofs.lemmas.List.{take_more}
+use Rattle.std.proofs.Common.{take, ◌+◌, ◌∙◌, ap, sym, subst, arith, drop, length, List, ℕ, refl, [], ◌∷◌, ◌++◌}
 use Rattle.std.specs.Prelude.{true, false, Option, not, map}
 use Rattle.lin_truth.specs.declared.Term.{Term as Written}
 use Rattle.lin_truth.specs.Term.{Term, Terms, term_and}
 use Rattle.lin_truth.specs.Truth.{is_formula}
 use Rattle.lin_truth.specs.View.{tree_of, trees_of}
 use Rattle.lin_form.specs.declared.Bound.{Bound}
-use Rattle.lin_form.specs.Lin.{Lin, lin_plus, lin_times}
+use Rattle.lin_form.specs.Lin.{lin_plus, lin_times}
 use Rattle.lin_form.specs.Direct.{direct, made}
 use Rattle.lin_form.specs.Low.{as_lin, low, steps}
 use Rattle.lin_form.specs.Scope.{bound_sort}
@@ -13,14 +14,14 @@ use Rattle.lin_form.proofs.Trees.{trees_more, trees_all, tree-Negative, tree-Abs
 use Rattle.norm_form.specs.declared.branches.Case.{Case}
 use Rattle.norm_form.specs.declared.change.Step.TheVariants as step_kinds
 use Rattle.norm_form.specs.Cap.{capped_maker}
-use Rattle.norm_form.specs.Cases.{AreCases, AreBack, stepped}
+use Rattle.norm_form.specs.Cases.{AreCases, AreBack, AreBothBack, joined}
 use Rattle.norm_form.specs.Norm.{gnorm, glin, gbind}
 use Rattle.norm_form.specs.Normal.{Normal}
 use Rattle.norm_form.specs.Pairing.{other_part, test_part, paired_form}
 use Rattle.norm_form.specs.View.{IsBuilt}
 use Rattle.norm_form.specs.Walk.{all_bound, wrapped}
 use Rattle.norm_form.proofs.Claiming.{built_same}
-use Rattle.norm_form.proofs.Running.{GoesOn, goes_form, goes_choice, goes_quotient, goes_stop, turned_cases, turned_back_cases, cases_stop, back_stop}
+use Rattle.norm_form.proofs.Running.{GoesOn, goes_form, goes_choice, goes_quotient, goes_stop, turned_cases, cases_stop, both_back_cases, both_back_stop, both_more, both_stop, both_end, turned_form}
 use Rattle.norm_form.proofs.Walking.{SumStands, ProductStands, PartsStand, Stepping, sum_more, sum_stops, product_more, product_stops, parts_more, parts_stop, parts_end, direct_cases, negative_cases, absolute_cases, minus_cases, quotient_cases, div_cases, mod_cases, plus_cases, times_cases, ite_cases, equal_number, equal_truth}
 use Rattle.norm_form.proofs.Wrapping.{bind_is}
 use Rattle.norm_form.proofs.+walk.Goals as goal
@@ -76,98 +77,102 @@ number::number-returns-in-Times t c =
 
 pub number::second-returns-in-Ok : goal.number::second-returns-in-Ok
 number::second-returns-in-Ok t c = λ g h.
-    turned_cases (λ k e x. glin capped_maker (tree_of c.args.b.now) c.args.sort c.args.ctx.now e (λ f y. capped_maker.formed (stepped c.args.step x y ∷ []) (k f (stepped c.args.step x y)))) g c.in-Ok.cases c.righted.result (subst (λ r. AreCases g r) c.in-Ok.is h) (c.righted.ensures (λ k e x. glin capped_maker (tree_of c.args.b.now) c.args.sort c.args.ctx.now e (λ f y. capped_maker.formed (stepped c.args.step x y ∷ []) (k f (stepped c.args.step x y)))) c.in-Ok.cases c.second_each.ensures)
+    turned_cases (λ k e x. glin capped_maker (tree_of c.args.b.now) c.args.sort c.args.ctx.now e (joined c.args.step x k)) g c.in-Ok.cases c.righted.result (subst (λ r. AreCases g r) c.in-Ok.is h) (c.righted.ensures (λ k e x. glin capped_maker (tree_of c.args.b.now) c.args.sort c.args.ctx.now e (joined c.args.step x k)) c.in-Ok.cases c.second_each.ensures)
 
 pub number::second-returns-in-Err : goal.number::second-returns-in-Err
-number::second-returns-in-Err t c = λ g h. cases_stop (λ k e x. glin capped_maker (tree_of c.args.b.now) c.args.sort c.args.ctx.now e (λ f y. capped_maker.formed (stepped c.args.step x y ∷ []) (k f (stepped c.args.step x y)))) g c.in-Err.fault (subst (λ r. AreCases g r) c.in-Err.is h)
+number::second-returns-in-Err t c = λ g h. cases_stop (λ k e x. glin capped_maker (tree_of c.args.b.now) c.args.sort c.args.ctx.now e (joined c.args.step x k)) g c.in-Err.fault (subst (λ r. AreCases g r) c.in-Err.is h)
 
 pub number::chosen-returns-in-Ok : goal.number::chosen-returns-in-Ok
 number::chosen-returns-in-Ok t c = λ g h.
-    turned_cases (λ k e x. glin capped_maker (other_part (tree_of c.args.term.now)) c.args.sort c.args.ctx.now e (λ f y. paired_form (tree_of c.args.term.now) c.args.sort c.args.ctx.now x k f y)) g c.in-Ok.cases c.righted.result (subst (λ r. AreCases g r) c.in-Ok.is h) (c.righted.ensures (λ k e x. glin capped_maker (other_part (tree_of c.args.term.now)) c.args.sort c.args.ctx.now e (λ f y. paired_form (tree_of c.args.term.now) c.args.sort c.args.ctx.now x k f y)) c.in-Ok.cases c.chosen_each.ensures)
+    turned_cases (λ k e x. glin capped_maker (other_part (tree_of c.args.term.now)) c.args.sort c.args.ctx.now e (paired_form (tree_of c.args.term.now) c.args.sort c.args.ctx.now x k)) g c.in-Ok.cases c.righted.result (subst (λ r. AreCases g r) c.in-Ok.is h) (c.righted.ensures (λ k e x. glin capped_maker (other_part (tree_of c.args.term.now)) c.args.sort c.args.ctx.now e (paired_form (tree_of c.args.term.now) c.args.sort c.args.ctx.now x k)) c.in-Ok.cases c.chosen_each.ensures)
 
 pub number::chosen-returns-in-Err : goal.number::chosen-returns-in-Err
-number::chosen-returns-in-Err t c = λ g h. cases_stop (λ k e x. glin capped_maker (other_part (tree_of c.args.term.now)) c.args.sort c.args.ctx.now e (λ f y. paired_form (tree_of c.args.term.now) c.args.sort c.args.ctx.now x k f y)) g c.in-Err.fault (subst (λ r. AreCases g r) c.in-Err.is h)
+number::chosen-returns-in-Err t c = λ g h. cases_stop (λ k e x. glin capped_maker (other_part (tree_of c.args.term.now)) c.args.sort c.args.ctx.now e (paired_form (tree_of c.args.term.now) c.args.sort c.args.ctx.now x k)) g c.in-Err.fault (subst (λ r. AreCases g r) c.in-Err.is h)
 
 pub number::paired-returns-in-Ok : goal.number::paired-returns-in-Ok
-number::paired-returns-in-Ok t c = λ g h. turned_back_cases (paired_form (tree_of c.args.term.now) c.args.sort c.args.ctx.now c.args.x.now) g c.in-Ok.cases c.paired_each.result (subst (λ r. AreCases g r) c.in-Ok.is h) c.paired_each.ensures
+number::paired-returns-in-Ok t c = λ e g h. both_back_cases (paired_form (tree_of c.args.term.now) c.args.sort c.args.ctx.now c.args.x.now) g c.in-Ok.cases c.paired_each.result (subst (λ r. AreBack g r) c.in-Ok.is h) (subst (λ (cs : List Case). AreBothBack (paired_form (tree_of c.args.term.now) c.args.sort c.args.ctx.now c.args.x.now) cs c.paired_each.result) c.as_slice.ensures (c.paired_each.ensures e))
 
 pub number::paired-returns-in-Err : goal.number::paired-returns-in-Err
-number::paired-returns-in-Err t c = λ g h. back_stop (paired_form (tree_of c.args.term.now) c.args.sort c.args.ctx.now c.args.x.now) g c.in-Err.fault (subst (λ r. AreCases g r) c.in-Err.is h)
+number::paired-returns-in-Err t c = λ e g h. both_back_stop (paired_form (tree_of c.args.term.now) c.args.sort c.args.ctx.now c.args.x.now) g c.in-Err.fault (subst (λ r. AreBack g r) c.in-Err.is h)
 
-pub number::second_each-returns-in-Err : goal.number::second_each-returns-in-Err
-number::second_each-returns-in-Err t c =
-    goes_stop (λ k e x. glin capped_maker (tree_of c.args.b.now) c.args.sort c.args.ctx.now e (λ f y. capped_maker.formed (stepped c.args.step x y ∷ []) (k f (stepped c.args.step x y)))) c.args.cases c.loop-case.todo c.pop.new.self c.loop-case.out c.in-Form.level c.in-Form.x c.in-Err.fault c.loop-case.invariant
-    (c.in-Some.ensures ∙ ap (λ (z : Case). c.pop.new.self ++ z ∷ []) c.in-Form.is) (c.in-Err.ensures (λ k. glin capped_maker (tree_of c.args.b.now) c.args.sort c.args.ctx.now c.in-Form.level k) c.number-ys.ensures)
+pub number::second_over-returns-in-Err : goal.number::second_over-returns-in-Err
+number::second_over-returns-in-Err t c = λ h.
+    goes_stop (λ k e x. glin capped_maker (tree_of c.args.b.now) c.args.sort c.args.ctx.now e (joined c.args.step x k)) c.args.cases c.loop-case.todo c.pop.new.self c.loop-case.out c.in-Form.level c.in-Form.x c.in-Err.fault (c.loop-case.invariant h)
+    (c.in-Some.ensures ∙ ap (λ (z : Case). c.pop.new.self ++ z ∷ []) c.in-Form.is) (c.in-Err.ensures h)
 
-pub number::second_each-loop-case-preserved-in-Continue-1 : goal.number::second_each-loop-case-preserved-in-Continue-1
-number::second_each-loop-case-preserved-in-Continue-1 t c =
-    subst (λ (o : List Case). GoesOn (λ k e x. glin capped_maker (tree_of c.args.b.now) c.args.sort c.args.ctx.now e (λ f y. capped_maker.formed (stepped c.args.step x y ∷ []) (k f (stepped c.args.step x y)))) c.args.cases c.pop.new.self o) (sym c.in_ok-append-in-Form.ensures)
-    (goes_form (λ k e x. glin capped_maker (tree_of c.args.b.now) c.args.sort c.args.ctx.now e (λ f y. capped_maker.formed (stepped c.args.step x y ∷ []) (k f (stepped c.args.step x y)))) c.args.cases c.loop-case.todo c.pop.new.self c.loop-case.out c.in-Ok.more c.in-Form.level c.in-Form.x c.loop-case.invariant
-    (c.in-Some.ensures ∙ ap (λ (z : Case). c.pop.new.self ++ z ∷ []) c.in-Form.is) (c.in-Ok.ensures (λ k. glin capped_maker (tree_of c.args.b.now) c.args.sort c.args.ctx.now c.in-Form.level k) c.number-ys.ensures))
+pub number::second_over-loop-case-preserved-in_ok-append-in-Form : goal.number::second_over-loop-case-preserved-in_ok-append-in-Form
+number::second_over-loop-case-preserved-in_ok-append-in-Form t c = λ h.
+    subst (λ (o : List Case). GoesOn (λ k e x. glin capped_maker (tree_of c.args.b.now) c.args.sort c.args.ctx.now e (joined c.args.step x k)) c.args.cases c.pop.new.self o) (sym c.in_ok-append-in-Form.ensures)
+    (goes_form (λ k e x. glin capped_maker (tree_of c.args.b.now) c.args.sort c.args.ctx.now e (joined c.args.step x k)) c.args.cases c.loop-case.todo c.pop.new.self c.loop-case.out c.in-Ok.more c.in-Form.level c.in-Form.x (c.loop-case.invariant h)
+    (c.in-Some.ensures ∙ ap (λ (z : Case). c.pop.new.self ++ z ∷ []) c.in-Form.is) (c.in-Ok.ensures h))
 
-pub number::second_each-loop-case-preserved-in-Continue-branch-2 : goal.number::second_each-loop-case-preserved-in-Continue-branch-2
-number::second_each-loop-case-preserved-in-Continue-branch-2 t c =
-    subst (λ (o : List Case). GoesOn (λ k e x. glin capped_maker (tree_of c.args.b.now) c.args.sort c.args.ctx.now e (λ f y. capped_maker.formed (stepped c.args.step x y ∷ []) (k f (stepped c.args.step x y)))) c.args.cases c.pop.new.self o) (sym c.in_ok-push-in-Choice.ensures.ok)
-    (goes_choice (λ k e x. glin capped_maker (tree_of c.args.b.now) c.args.sort c.args.ctx.now e (λ f y. capped_maker.formed (stepped c.args.step x y ∷ []) (k f (stepped c.args.step x y)))) c.args.cases c.loop-case.todo c.pop.new.self c.loop-case.out c.in-Choice.test c.in-Choice.untest c.loop-case.invariant
+pub number::second_over-loop-case-preserved-in_ok-append-in-Form-2 : goal.number::second_over-loop-case-preserved-in_ok-append-in-Form-2
+number::second_over-loop-case-preserved-in_ok-append-in-Form-2 t c = λ h.
+    subst (λ (o : List Case). GoesOn (λ k e x. glin capped_maker (tree_of c.args.b.now) c.args.sort c.args.ctx.now e (joined c.args.step x k)) c.args.cases c.pop.new.self o) (sym c.in_ok-append-in-Form.ensures)
+    (goes_form (λ k e x. glin capped_maker (tree_of c.args.b.now) c.args.sort c.args.ctx.now e (joined c.args.step x k)) c.args.cases c.loop-case.todo c.pop.new.self c.loop-case.out c.in-Ok.more c.in-Form.level c.in-Form.x (c.loop-case.invariant h)
+    (c.in-Some.ensures ∙ ap (λ (z : Case). c.pop.new.self ++ z ∷ []) c.in-Form.is) (c.in-Ok.ensures h))
+
+pub number::second_over-loop-case-preserved-in-Continue-branch-2 : goal.number::second_over-loop-case-preserved-in-Continue-branch-2
+number::second_over-loop-case-preserved-in-Continue-branch-2 t c = λ h.
+    subst (λ (o : List Case). GoesOn (λ k e x. glin capped_maker (tree_of c.args.b.now) c.args.sort c.args.ctx.now e (joined c.args.step x k)) c.args.cases c.pop.new.self o) (sym c.in_ok-push-in-Choice.ensures.ok)
+    (goes_choice (λ k e x. glin capped_maker (tree_of c.args.b.now) c.args.sort c.args.ctx.now e (joined c.args.step x k)) c.args.cases c.loop-case.todo c.pop.new.self c.loop-case.out c.in-Choice.test c.in-Choice.untest (c.loop-case.invariant h)
     (c.in-Some.ensures ∙ ap (λ (z : Case). c.pop.new.self ++ z ∷ []) c.in-Choice.is))
 
-pub number::second_each-loop-case-preserved : goal.number::second_each-loop-case-preserved
-number::second_each-loop-case-preserved t c =
-    subst (λ (o : List Case). GoesOn (λ k e x. glin capped_maker (tree_of c.args.b.now) c.args.sort c.args.ctx.now e (λ f y. capped_maker.formed (stepped c.args.step x y ∷ []) (k f (stepped c.args.step x y)))) c.args.cases c.pop.new.self o) (sym c.in_ok-push-in-Quotient.ensures.ok)
-    (goes_quotient (λ k e x. glin capped_maker (tree_of c.args.b.now) c.args.sort c.args.ctx.now e (λ f y. capped_maker.formed (stepped c.args.step x y ∷ []) (k f (stepped c.args.step x y)))) c.args.cases c.loop-case.todo c.pop.new.self c.loop-case.out c.in-Quotient.low c.in-Quotient.high c.loop-case.invariant
+pub number::second_over-loop-case-preserved : goal.number::second_over-loop-case-preserved
+number::second_over-loop-case-preserved t c = λ h.
+    subst (λ (o : List Case). GoesOn (λ k e x. glin capped_maker (tree_of c.args.b.now) c.args.sort c.args.ctx.now e (joined c.args.step x k)) c.args.cases c.pop.new.self o) (sym c.in_ok-push-in-Quotient.ensures.ok)
+    (goes_quotient (λ k e x. glin capped_maker (tree_of c.args.b.now) c.args.sort c.args.ctx.now e (joined c.args.step x k)) c.args.cases c.loop-case.todo c.pop.new.self c.loop-case.out c.in-Quotient.low c.in-Quotient.high (c.loop-case.invariant h)
     (c.in-Some.ensures ∙ ap (λ (z : Case). c.pop.new.self ++ z ∷ []) c.in-Quotient.is))
 
-pub number::chosen_each-returns-in-Err : goal.number::chosen_each-returns-in-Err
-number::chosen_each-returns-in-Err t c =
-    goes_stop (λ k e x. glin capped_maker (other_part (tree_of c.args.term.now)) c.args.sort c.args.ctx.now e (λ f y. paired_form (tree_of c.args.term.now) c.args.sort c.args.ctx.now x k f y)) c.args.cases c.loop-case.todo c.pop.new.self c.loop-case.out c.in-Form.level c.in-Form.x c.in-Err.fault c.loop-case.invariant
-    (c.in-Some.ensures ∙ ap (λ (z : Case). c.pop.new.self ++ z ∷ []) c.in-Form.is) (c.in-Err.ensures (λ k. glin capped_maker (other_part (tree_of c.args.term.now)) c.args.sort c.args.ctx.now c.in-Form.level k) c.other-ys.ensures)
+pub number::chosen_over-returns-in-Err : goal.number::chosen_over-returns-in-Err
+number::chosen_over-returns-in-Err t c = λ u h.
+    goes_stop (λ k e x. glin capped_maker (other_part (tree_of c.args.term.now)) c.args.sort c.args.ctx.now e (paired_form (tree_of c.args.term.now) c.args.sort c.args.ctx.now x k)) c.args.cases c.loop-case.todo c.pop.new.self c.loop-case.out c.in-Form.level c.in-Form.x c.in-Err.fault (c.loop-case.invariant u h)
+    (c.in-Some.ensures ∙ ap (λ (z : Case). c.pop.new.self ++ z ∷ []) c.in-Form.is) (c.in-Err.ensures u h)
 
-pub number::chosen_each-loop-case-preserved-in_ok-append-in-Form : goal.number::chosen_each-loop-case-preserved-in_ok-append-in-Form
-number::chosen_each-loop-case-preserved-in_ok-append-in-Form t c =
-    subst (λ (o : List Case). GoesOn (λ k e x. glin capped_maker (other_part (tree_of c.args.term.now)) c.args.sort c.args.ctx.now e (λ f y. paired_form (tree_of c.args.term.now) c.args.sort c.args.ctx.now x k f y)) c.args.cases c.pop.new.self o) (sym c.in_ok-append-in-Form.ensures)
-    (goes_form (λ k e x. glin capped_maker (other_part (tree_of c.args.term.now)) c.args.sort c.args.ctx.now e (λ f y. paired_form (tree_of c.args.term.now) c.args.sort c.args.ctx.now x k f y)) c.args.cases c.loop-case.todo c.pop.new.self c.loop-case.out c.in-Ok.more c.in-Form.level c.in-Form.x c.loop-case.invariant
-    (c.in-Some.ensures ∙ ap (λ (z : Case). c.pop.new.self ++ z ∷ []) c.in-Form.is) (c.in-Ok.ensures (λ k. glin capped_maker (other_part (tree_of c.args.term.now)) c.args.sort c.args.ctx.now c.in-Form.level k) c.other-ys.ensures))
+pub number::chosen_over-loop-case-preserved-in_ok-append-in-Form : goal.number::chosen_over-loop-case-preserved-in_ok-append-in-Form
+number::chosen_over-loop-case-preserved-in_ok-append-in-Form t c = λ u h.
+    subst (λ (o : List Case). GoesOn (λ k e x. glin capped_maker (other_part (tree_of c.args.term.now)) c.args.sort c.args.ctx.now e (paired_form (tree_of c.args.term.now) c.args.sort c.args.ctx.now x k)) c.args.cases c.pop.new.self o) (sym c.in_ok-append-in-Form.ensures)
+    (goes_form (λ k e x. glin capped_maker (other_part (tree_of c.args.term.now)) c.args.sort c.args.ctx.now e (paired_form (tree_of c.args.term.now) c.args.sort c.args.ctx.now x k)) c.args.cases c.loop-case.todo c.pop.new.self c.loop-case.out c.in-Ok.more c.in-Form.level c.in-Form.x (c.loop-case.invariant u h)
+    (c.in-Some.ensures ∙ ap (λ (z : Case). c.pop.new.self ++ z ∷ []) c.in-Form.is) (c.in-Ok.ensures u h))
 
-pub number::chosen_each-loop-case-preserved-in_ok-append-in-Form-2 : goal.number::chosen_each-loop-case-preserved-in_ok-append-in-Form-2
-number::chosen_each-loop-case-preserved-in_ok-append-in-Form-2 t c =
-    subst (λ (o : List Case). GoesOn (λ k e x. glin capped_maker (other_part (tree_of c.args.term.now)) c.args.sort c.args.ctx.now e (λ f y. paired_form (tree_of c.args.term.now) c.args.sort c.args.ctx.now x k f y)) c.args.cases c.pop.new.self o) (sym c.in_ok-append-in-Form.ensures)
-    (goes_form (λ k e x. glin capped_maker (other_part (tree_of c.args.term.now)) c.args.sort c.args.ctx.now e (λ f y. paired_form (tree_of c.args.term.now) c.args.sort c.args.ctx.now x k f y)) c.args.cases c.loop-case.todo c.pop.new.self c.loop-case.out c.in-Ok.more c.in-Form.level c.in-Form.x c.loop-case.invariant
-    (c.in-Some.ensures ∙ ap (λ (z : Case). c.pop.new.self ++ z ∷ []) c.in-Form.is) (c.in-Ok.ensures (λ k. glin capped_maker (other_part (tree_of c.args.term.now)) c.args.sort c.args.ctx.now c.in-Form.level k) c.other-ys.ensures))
+pub number::chosen_over-loop-case-preserved-in_ok-append-in-Form-2 : goal.number::chosen_over-loop-case-preserved-in_ok-append-in-Form-2
+number::chosen_over-loop-case-preserved-in_ok-append-in-Form-2 t c = λ u h.
+    subst (λ (o : List Case). GoesOn (λ k e x. glin capped_maker (other_part (tree_of c.args.term.now)) c.args.sort c.args.ctx.now e (paired_form (tree_of c.args.term.now) c.args.sort c.args.ctx.now x k)) c.args.cases c.pop.new.self o) (sym c.in_ok-append-in-Form.ensures)
+    (goes_form (λ k e x. glin capped_maker (other_part (tree_of c.args.term.now)) c.args.sort c.args.ctx.now e (paired_form (tree_of c.args.term.now) c.args.sort c.args.ctx.now x k)) c.args.cases c.loop-case.todo c.pop.new.self c.loop-case.out c.in-Ok.more c.in-Form.level c.in-Form.x (c.loop-case.invariant u h)
+    (c.in-Some.ensures ∙ ap (λ (z : Case). c.pop.new.self ++ z ∷ []) c.in-Form.is) (c.in-Ok.ensures u h))
 
-pub number::chosen_each-loop-case-preserved-in-Continue-branch-2 : goal.number::chosen_each-loop-case-preserved-in-Continue-branch-2
-number::chosen_each-loop-case-preserved-in-Continue-branch-2 t c =
-    subst (λ (o : List Case). GoesOn (λ k e x. glin capped_maker (other_part (tree_of c.args.term.now)) c.args.sort c.args.ctx.now e (λ f y. paired_form (tree_of c.args.term.now) c.args.sort c.args.ctx.now x k f y)) c.args.cases c.pop.new.self o) (sym c.in_ok-push-in-Choice.ensures.ok)
-    (goes_choice (λ k e x. glin capped_maker (other_part (tree_of c.args.term.now)) c.args.sort c.args.ctx.now e (λ f y. paired_form (tree_of c.args.term.now) c.args.sort c.args.ctx.now x k f y)) c.args.cases c.loop-case.todo c.pop.new.self c.loop-case.out c.in-Choice.test c.in-Choice.untest c.loop-case.invariant
+pub number::chosen_over-loop-case-preserved-in-Continue-branch-2 : goal.number::chosen_over-loop-case-preserved-in-Continue-branch-2
+number::chosen_over-loop-case-preserved-in-Continue-branch-2 t c = λ u h.
+    subst (λ (o : List Case). GoesOn (λ k e x. glin capped_maker (other_part (tree_of c.args.term.now)) c.args.sort c.args.ctx.now e (paired_form (tree_of c.args.term.now) c.args.sort c.args.ctx.now x k)) c.args.cases c.pop.new.self o) (sym c.in_ok-push-in-Choice.ensures.ok)
+    (goes_choice (λ k e x. glin capped_maker (other_part (tree_of c.args.term.now)) c.args.sort c.args.ctx.now e (paired_form (tree_of c.args.term.now) c.args.sort c.args.ctx.now x k)) c.args.cases c.loop-case.todo c.pop.new.self c.loop-case.out c.in-Choice.test c.in-Choice.untest (c.loop-case.invariant u h)
     (c.in-Some.ensures ∙ ap (λ (z : Case). c.pop.new.self ++ z ∷ []) c.in-Choice.is))
 
-pub number::chosen_each-loop-case-preserved : goal.number::chosen_each-loop-case-preserved
-number::chosen_each-loop-case-preserved t c =
-    subst (λ (o : List Case). GoesOn (λ k e x. glin capped_maker (other_part (tree_of c.args.term.now)) c.args.sort c.args.ctx.now e (λ f y. paired_form (tree_of c.args.term.now) c.args.sort c.args.ctx.now x k f y)) c.args.cases c.pop.new.self o) (sym c.in_ok-push-in-Quotient.ensures.ok)
-    (goes_quotient (λ k e x. glin capped_maker (other_part (tree_of c.args.term.now)) c.args.sort c.args.ctx.now e (λ f y. paired_form (tree_of c.args.term.now) c.args.sort c.args.ctx.now x k f y)) c.args.cases c.loop-case.todo c.pop.new.self c.loop-case.out c.in-Quotient.low c.in-Quotient.high c.loop-case.invariant
+pub number::chosen_over-loop-case-preserved : goal.number::chosen_over-loop-case-preserved
+number::chosen_over-loop-case-preserved t c = λ u h.
+    subst (λ (o : List Case). GoesOn (λ k e x. glin capped_maker (other_part (tree_of c.args.term.now)) c.args.sort c.args.ctx.now e (paired_form (tree_of c.args.term.now) c.args.sort c.args.ctx.now x k)) c.args.cases c.pop.new.self o) (sym c.in_ok-push-in-Quotient.ensures.ok)
+    (goes_quotient (λ k e x. glin capped_maker (other_part (tree_of c.args.term.now)) c.args.sort c.args.ctx.now e (paired_form (tree_of c.args.term.now) c.args.sort c.args.ctx.now x k)) c.args.cases c.loop-case.todo c.pop.new.self c.loop-case.out c.in-Quotient.low c.in-Quotient.high (c.loop-case.invariant u h)
     (c.in-Some.ensures ∙ ap (λ (z : Case). c.pop.new.self ++ z ∷ []) c.in-Quotient.is))
+
+pub number::second_each-returns : goal.number::second_each-returns
+number::second_each-returns t c =
+    c.second_over.ensures (c.turned_round-ys.ensures (λ k. glin capped_maker (tree_of c.args.b.now) c.args.sort c.args.ctx.now c.level_in-known.result k) c.number-worked.ensures)
+
+pub number::chosen_each-returns : goal.number::chosen_each-returns
+number::chosen_each-returns t c =
+    c.chosen_over.ensures (c.test-by.ensures.yes, c.test-by.ensures.no) (c.turned_round-ys.ensures (λ k. glin capped_maker (other_part (tree_of c.args.term.now)) c.args.sort c.args.ctx.now c.level_in-known.result k) c.other-worked.ensures)
 
 pub number::paired_each-returns-in-Err : goal.number::paired_each-returns-in-Err
-number::paired_each-returns-in-Err t c =
-    goes_stop (paired_form (tree_of c.args.term.now) c.args.sort c.args.ctx.now c.args.x.now) c.args.cases c.loop-case.todo c.pop.new.self c.loop-case.out c.in-Form.level c.in-Form.y c.in-Err.fault c.loop-case.invariant
-    (c.in-Some.ensures ∙ ap (λ (z : Case). c.pop.new.self ++ z ∷ []) c.in-Form.is) c.in-Err.ensures
-
-pub number::paired_each-loop-case-preserved-in-Continue-1 : goal.number::paired_each-loop-case-preserved-in-Continue-1
-number::paired_each-loop-case-preserved-in-Continue-1 t c =
-    subst (λ (o : List Case). GoesOn (paired_form (tree_of c.args.term.now) c.args.sort c.args.ctx.now c.args.x.now) c.args.cases c.pop.new.self o) (sym c.in_ok-append-in-Form.ensures)
-    (goes_form (paired_form (tree_of c.args.term.now) c.args.sort c.args.ctx.now c.args.x.now) c.args.cases c.loop-case.todo c.pop.new.self c.loop-case.out c.in-Ok.more c.in-Form.level c.in-Form.y c.loop-case.invariant
-    (c.in-Some.ensures ∙ ap (λ (z : Case). c.pop.new.self ++ z ∷ []) c.in-Form.is) c.in-Ok.ensures)
-
-pub number::paired_each-loop-case-preserved-in-Continue-branch-2 : goal.number::paired_each-loop-case-preserved-in-Continue-branch-2
-number::paired_each-loop-case-preserved-in-Continue-branch-2 t c =
-    subst (λ (o : List Case). GoesOn (paired_form (tree_of c.args.term.now) c.args.sort c.args.ctx.now c.args.x.now) c.args.cases c.pop.new.self o) (sym c.in_ok-push-in-Choice.ensures.ok)
-    (goes_choice (paired_form (tree_of c.args.term.now) c.args.sort c.args.ctx.now c.args.x.now) c.args.cases c.loop-case.todo c.pop.new.self c.loop-case.out c.in-Choice.test c.in-Choice.untest c.loop-case.invariant
-    (c.in-Some.ensures ∙ ap (λ (z : Case). c.pop.new.self ++ z ∷ []) c.in-Choice.is))
+number::paired_each-returns-in-Err t c = λ e.
+    both_stop (paired_form (tree_of c.args.term.now) c.args.sort c.args.ctx.now c.args.x.now) c.args.cases.now c.loop-case.case-index c.case-item.result c.in-Err.fault
+    (take_more c.args.cases.now c.loop-case.case-index c.case-item.result c.loop-case-test.true ∙ ap (λ (z : Case). take c.loop-case.case-index c.args.cases.now ++ z ∷ []) (sym c.case-item.is)) (c.in-Err.ensures e)
 
 pub number::paired_each-loop-case-preserved : goal.number::paired_each-loop-case-preserved
-number::paired_each-loop-case-preserved t c =
-    subst (λ (o : List Case). GoesOn (paired_form (tree_of c.args.term.now) c.args.sort c.args.ctx.now c.args.x.now) c.args.cases c.pop.new.self o) (sym c.in_ok-push-in-Quotient.ensures.ok)
-    (goes_quotient (paired_form (tree_of c.args.term.now) c.args.sort c.args.ctx.now c.args.x.now) c.args.cases c.loop-case.todo c.pop.new.self c.loop-case.out c.in-Quotient.low c.in-Quotient.high c.loop-case.invariant
-    (c.in-Some.ensures ∙ ap (λ (z : Case). c.pop.new.self ++ z ∷ []) c.in-Quotient.is))
+number::paired_each-loop-case-preserved t c = λ e.
+    both_more (paired_form (tree_of c.args.term.now) c.args.sort c.args.ctx.now c.args.x.now) c.args.cases.now c.loop-case.out c.in-Ok.more c.append.new.self c.loop-case.case-index c.case-item.result (c.loop-case.invariant e)
+    (take_more c.args.cases.now c.loop-case.case-index c.case-item.result c.loop-case-test.true ∙ ap (λ (z : Case). take c.loop-case.case-index c.args.cases.now ++ z ∷ []) (sym c.case-item.is)) c.in_ok-append-in-Ok.ensures (c.in-Ok.ensures e)
+
+pub number::paired_each-returns : goal.number::paired_each-returns
+number::paired_each-returns t c = λ e. both_end (paired_form (tree_of c.args.term.now) c.args.sort c.args.ctx.now c.args.x.now) c.args.cases.now c.loop-case.out c.loop-case.case-index (c.loop-case.invariant e) c.loop-case-test.false
 
 pub number::sum-loop-term-preserved : goal.number::sum-loop-term-preserved
 number::sum-loop-term-preserved t c =
@@ -238,29 +243,29 @@ formula::comparison-returns-in-Divisible t c =
 pub formula::comparison-returns-in-Less : goal.formula::comparison-returns-in-Less
 formula::comparison-returns-in-Less t c =
     subst (λ (u : Term). IsBuilt (gnorm capped_maker u c.args.sort c.args.truth c.args.ctx.now c.args.level) c.atom-in-Less.result) (sym (tree-Less c.get-in-Less.result.now c.get-in-Less-2.result.now c.in-Less.a c.in-Less.b c.args.term.now c.get-in-Less.ensures c.get-in-Less-2.ensures c.in-Less.is))
-    (c.atom-in-Less.ensures (λ k. glin capped_maker (tree_of c.get-in-Less.result.now) c.args.sort c.args.ctx.now c.args.level (λ e x. glin capped_maker (tree_of c.get-in-Less-2.result.now) c.args.sort c.args.ctx.now e (λ f y. capped_maker.formed (stepped step_kinds.From x y ∷ []) (k f (stepped step_kinds.From x y))))) (c.second-z.ensures (λ k. glin capped_maker (tree_of c.get-in-Less.result.now) c.args.sort c.args.ctx.now c.args.level k) c.number-x-in-Less.ensures))
+    (c.atom-in-Less.ensures (λ k. glin capped_maker (tree_of c.get-in-Less.result.now) c.args.sort c.args.ctx.now c.args.level (λ e x. glin capped_maker (tree_of c.get-in-Less-2.result.now) c.args.sort c.args.ctx.now e (joined step_kinds.From x k))) (c.second-z.ensures (λ k. glin capped_maker (tree_of c.get-in-Less.result.now) c.args.sort c.args.ctx.now c.args.level k) c.number-x-in-Less.ensures))
 
 pub formula::comparison-returns-in-AtMost : goal.formula::comparison-returns-in-AtMost
 formula::comparison-returns-in-AtMost t c =
     subst (λ (u : Term). IsBuilt (gnorm capped_maker u c.args.sort c.args.truth c.args.ctx.now c.args.level) c.atom-in-AtMost.result) (sym (tree-AtMost c.get-in-AtMost.result.now c.get-in-AtMost-2.result.now c.in-AtMost.a c.in-AtMost.b c.args.term.now c.get-in-AtMost.ensures c.get-in-AtMost-2.ensures c.in-AtMost.is))
-    (c.atom-in-AtMost.ensures (λ k. glin capped_maker (tree_of c.get-in-AtMost.result.now) c.args.sort c.args.ctx.now c.args.level (λ e x. glin capped_maker (tree_of c.get-in-AtMost-2.result.now) c.args.sort c.args.ctx.now e (λ f y. capped_maker.formed (stepped step_kinds.From x y ∷ []) (k f (stepped step_kinds.From x y))))) (c.second-z-in-AtMost.ensures (λ k. glin capped_maker (tree_of c.get-in-AtMost.result.now) c.args.sort c.args.ctx.now c.args.level k) c.number-x-in-AtMost.ensures))
+    (c.atom-in-AtMost.ensures (λ k. glin capped_maker (tree_of c.get-in-AtMost.result.now) c.args.sort c.args.ctx.now c.args.level (λ e x. glin capped_maker (tree_of c.get-in-AtMost-2.result.now) c.args.sort c.args.ctx.now e (joined step_kinds.From x k))) (c.second-z-in-AtMost.ensures (λ k. glin capped_maker (tree_of c.get-in-AtMost.result.now) c.args.sort c.args.ctx.now c.args.level k) c.number-x-in-AtMost.ensures))
 
 pub formula::comparison-returns-in-Greater : goal.formula::comparison-returns-in-Greater
 formula::comparison-returns-in-Greater t c =
     subst (λ (u : Term). IsBuilt (gnorm capped_maker u c.args.sort c.args.truth c.args.ctx.now c.args.level) c.atom-in-Greater.result) (sym (tree-Greater c.get-in-Greater.result.now c.get-in-Greater-2.result.now c.in-Greater.a c.in-Greater.b c.args.term.now c.get-in-Greater.ensures c.get-in-Greater-2.ensures c.in-Greater.is))
-    (c.atom-in-Greater.ensures (λ k. glin capped_maker (tree_of c.get-in-Greater.result.now) c.args.sort c.args.ctx.now c.args.level (λ e x. glin capped_maker (tree_of c.get-in-Greater-2.result.now) c.args.sort c.args.ctx.now e (λ f y. capped_maker.formed (stepped step_kinds.Minus x y ∷ []) (k f (stepped step_kinds.Minus x y))))) (c.second-z-in-Greater.ensures (λ k. glin capped_maker (tree_of c.get-in-Greater.result.now) c.args.sort c.args.ctx.now c.args.level k) c.number-x-in-Greater.ensures))
+    (c.atom-in-Greater.ensures (λ k. glin capped_maker (tree_of c.get-in-Greater.result.now) c.args.sort c.args.ctx.now c.args.level (λ e x. glin capped_maker (tree_of c.get-in-Greater-2.result.now) c.args.sort c.args.ctx.now e (joined step_kinds.Minus x k))) (c.second-z-in-Greater.ensures (λ k. glin capped_maker (tree_of c.get-in-Greater.result.now) c.args.sort c.args.ctx.now c.args.level k) c.number-x-in-Greater.ensures))
 
 pub formula::comparison-returns-in-AtLeast : goal.formula::comparison-returns-in-AtLeast
 formula::comparison-returns-in-AtLeast t c =
     subst (λ (u : Term). IsBuilt (gnorm capped_maker u c.args.sort c.args.truth c.args.ctx.now c.args.level) c.atom-in-AtLeast.result) (sym (tree-AtLeast c.get-in-AtLeast.result.now c.get-in-AtLeast-2.result.now c.in-AtLeast.a c.in-AtLeast.b c.args.term.now c.get-in-AtLeast.ensures c.get-in-AtLeast-2.ensures c.in-AtLeast.is))
-    (c.atom-in-AtLeast.ensures (λ k. glin capped_maker (tree_of c.get-in-AtLeast.result.now) c.args.sort c.args.ctx.now c.args.level (λ e x. glin capped_maker (tree_of c.get-in-AtLeast-2.result.now) c.args.sort c.args.ctx.now e (λ f y. capped_maker.formed (stepped step_kinds.Minus x y ∷ []) (k f (stepped step_kinds.Minus x y))))) (c.second-z-in-AtLeast.ensures (λ k. glin capped_maker (tree_of c.get-in-AtLeast.result.now) c.args.sort c.args.ctx.now c.args.level k) c.number-x-in-AtLeast.ensures))
+    (c.atom-in-AtLeast.ensures (λ k. glin capped_maker (tree_of c.get-in-AtLeast.result.now) c.args.sort c.args.ctx.now c.args.level (λ e x. glin capped_maker (tree_of c.get-in-AtLeast-2.result.now) c.args.sort c.args.ctx.now e (joined step_kinds.Minus x k))) (c.second-z-in-AtLeast.ensures (λ k. glin capped_maker (tree_of c.get-in-AtLeast.result.now) c.args.sort c.args.ctx.now c.args.level k) c.number-x-in-AtLeast.ensures))
 
 pub formula::by_both_ways-returns-else-is_formula_in : goal.formula::by_both_ways-returns-else-is_formula_in
 formula::by_both_ways-returns-else-is_formula_in t c =
     equal_number (tree_of c.args.term.now) (tree_of c.get-in-Equal.result.now) (tree_of c.get-in-Equal-2.result.now) c.args.sort c.args.truth c.args.ctx.now c.args.level c.atom.result
     (tree-Equal c.get-in-Equal.result.now c.get-in-Equal-2.result.now c.in-Equal.a c.in-Equal.b c.args.term.now c.get-in-Equal.ensures c.get-in-Equal-2.ensures c.in-Equal.is)
     (ap (λ (w : Written). is_formula (tree_of w) (map bound_sort c.args.ctx.now)) (c.get-in-Equal.ensures ∙ sym c.get.ensures) ∙ sym c.if-is_formula_in.ensures)
-    (c.atom.ensures (λ k. glin capped_maker (tree_of c.get-in-Equal.result.now) c.args.sort c.args.ctx.now c.args.level (λ e x. glin capped_maker (tree_of c.get-in-Equal-2.result.now) c.args.sort c.args.ctx.now e (λ f y. capped_maker.formed (stepped step_kinds.Minus x y ∷ []) (k f (stepped step_kinds.Minus x y)))))
+    (c.atom.ensures (λ k. glin capped_maker (tree_of c.get-in-Equal.result.now) c.args.sort c.args.ctx.now c.args.level (λ e x. glin capped_maker (tree_of c.get-in-Equal-2.result.now) c.args.sort c.args.ctx.now e (joined step_kinds.Minus x k)))
     (c.second-z.ensures (λ k. glin capped_maker (tree_of c.get-in-Equal.result.now) c.args.sort c.args.ctx.now c.args.level k) c.number-x.ensures))
 
 pub formula::by_both_ways-returns-then-is_formula_in : goal.formula::by_both_ways-returns-then-is_formula_in
@@ -297,7 +302,36 @@ formula::by_both_ways-returns-in-Ite t c =
     (subst (λ (w : Written). IsBuilt (gnorm capped_maker (tree_of w) c.args.sort c.args.truth c.args.ctx.now c.args.level) c.formula-x.result) c.get-in-Ite-2.ensures c.formula-x.ensures)
     (subst (λ (w : Written). IsBuilt (gnorm capped_maker (tree_of w) c.args.sort c.args.truth c.args.ctx.now c.args.level) c.formula-y.result) c.get-in-Ite-3.ensures c.formula-y.ensures))
 
+pub number::second_of-returns-then-level-known : goal.number::second_of-returns-then-level-known
+number::second_of-returns-then-level-known t c = λ h.
+    subst (λ (e : ℕ). AreBack (λ k. glin capped_maker (tree_of c.args.b.now) c.args.sort c.args.ctx.now e (joined c.args.step c.args.x.now k)) c.joined_back.result) (sym c.if-level-known.true)
+    (c.joined_back.ensures (λ k. glin capped_maker (tree_of c.args.b.now) c.args.sort c.args.ctx.now c.args.known k) h)
+
+pub number::second_of-returns : goal.number::second_of-returns
+number::second_of-returns t c = λ h.
+    c.joined_back-2.ensures (λ k. glin capped_maker (tree_of c.args.b.now) c.args.sort c.args.ctx.now c.args.level k)
+    (c.turned_round-own.ensures (λ k. glin capped_maker (tree_of c.args.b.now) c.args.sort c.args.ctx.now c.args.level k) c.number-worked.ensures)
+
+pub number::chosen_of-returns-then-level-known : goal.number::chosen_of-returns-then-level-known
+number::chosen_of-returns-then-level-known t c = λ u h.
+    subst (λ (e : ℕ). AreBack (λ k. glin capped_maker (other_part (tree_of c.args.term.now)) c.args.sort c.args.ctx.now e (paired_form (tree_of c.args.term.now) c.args.sort c.args.ctx.now c.args.x.now k)) c.paired.result) (sym c.if-level-known.true)
+    (c.paired.ensures u (λ k. glin capped_maker (other_part (tree_of c.args.term.now)) c.args.sort c.args.ctx.now c.args.known k) h)
+
+pub number::chosen_of-returns : goal.number::chosen_of-returns
+number::chosen_of-returns t c = λ u h.
+    c.paired-2.ensures u (λ k. glin capped_maker (other_part (tree_of c.args.term.now)) c.args.sort c.args.ctx.now c.args.level k)
+    (c.turned_round-own.ensures (λ k. glin capped_maker (other_part (tree_of c.args.term.now)) c.args.sort c.args.ctx.now c.args.level k) c.other-worked.ensures)
+
+pub number::pair_of-returns-then-level-deep : goal.number::pair_of-returns-then-level-deep
+number::pair_of-returns-then-level-deep t c = λ u.
+    c.pair_cases.ensures (gnorm capped_maker (test_part (tree_of c.args.term.now)) c.args.sort true c.args.ctx.now c.args.level) (gnorm capped_maker (test_part (tree_of c.args.term.now)) c.args.sort false c.args.ctx.now c.args.level)
+    (subst (λ (e : ℕ). IsBuilt (gnorm capped_maker (test_part (tree_of c.args.term.now)) c.args.sort true c.args.ctx.now e) c.args.by.now.yes) (sym c.if-level-deep.true) u.0)
+    (subst (λ (e : ℕ). IsBuilt (gnorm capped_maker (test_part (tree_of c.args.term.now)) c.args.sort false c.args.ctx.now e) c.args.by.now.no) (sym c.if-level-deep.true) u.1)
+
 pub number::pair_of-returns : goal.number::pair_of-returns
-number::pair_of-returns t c =
-    subst (λ (z : Lin). AreBack (λ k. capped_maker.ite_form (gnorm capped_maker (test_part (tree_of c.args.term.now)) c.args.sort true c.args.ctx.now c.args.level) (gnorm capped_maker (test_part (tree_of c.args.term.now)) c.args.sort false c.args.ctx.now c.args.level) (k c.args.level z) (k c.args.level c.args.y)) c.pair_cases.result) c.in_ok-first.ensures
-    (c.pair_cases.ensures (gnorm capped_maker (test_part (tree_of c.args.term.now)) c.args.sort true c.args.ctx.now c.args.level) (gnorm capped_maker (test_part (tree_of c.args.term.now)) c.args.sort false c.args.ctx.now c.args.level) c.test-by.ensures.yes c.test-by.ensures.no)
+number::pair_of-returns t c = λ u.
+    c.pair_cases-2.ensures (gnorm capped_maker (test_part (tree_of c.args.term.now)) c.args.sort true c.args.ctx.now c.args.level) (gnorm capped_maker (test_part (tree_of c.args.term.now)) c.args.sort false c.args.ctx.now c.args.level) c.test-own.ensures.yes c.test-own.ensures.no
+
+pub number::pair_case-returns-in-Form : goal.number::pair_case-returns-in-Form
+number::pair_case-returns-in-Form t c = λ u.
+    turned_form (paired_form (tree_of c.args.term.now) c.args.sort c.args.ctx.now c.args.x.now) c.args.case.now c.in-Form.level c.in-Form.y c.pair_of.result c.in-Form.is (c.pair_of.ensures u)

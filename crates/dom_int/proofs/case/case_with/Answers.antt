@@ -27,7 +27,7 @@ returns-in-Err c =
     let fd : SFits w64 c.args.div = c.ranges.div in
     let a : ℕ = nat_abs (to_z w64 (of_z w64 c.args.div)) in
     let t : Form = record { terms = c.args.terms.now; constant = to_z w128 (of_z w128 c.args.constant) } in
-    let e : put_all c.args.var a t (take c.args.place c.args.cube.now) ≡ put_all c.args.var (nat_abs c.args.div) (record { terms = c.args.terms.now; constant = c.args.constant }) (take c.args.place c.args.cube.now) = simp to_z-of_z in
+    let e : put_all Int c.args.var a t (take c.args.place c.args.cube.now) ≡ put_all Int c.args.var (nat_abs c.args.div) (record { terms = c.args.terms.now; constant = c.args.constant }) (take c.args.place c.args.cube.now) = simp to_z-of_z in
     first_part_refused {A = List Lit} c.new-lits.result c.put_each.new.out c.args.var (nat_abs c.args.div) (record { terms = c.args.terms.now; constant = c.args.constant }) c.args.cube.now c.args.place [] c.in-Err.fault
     (subst (λ (us : List Lit). AddsCube c.new-lits.result c.put_each.new.out us (Err c.in-Err.fault)) e c.in-Err.ensures)
 
@@ -50,7 +50,7 @@ returns-in-Err-put_each c =
     let t : Form = record { terms = c.args.terms.now; constant = to_z w128 (of_z w128 c.args.constant) } in
     let p = simp to_z-of_z at c.in-Ok.ensures.0 in
     let q = simp to_z-of_z at c.in-Ok-add_divides.ensures.0 in
-    let e : put_all c.args.var a t (take (length c.args.cube.now - (c.args.place + 1)) (drop (c.args.place + 1) c.args.cube.now)) ≡ put_all c.args.var (nat_abs c.args.div) (record { terms = c.args.terms.now; constant = c.args.constant }) (drop (c.args.place + 1) c.args.cube.now) = simp (to_z-of_z, take_rest) in
+    let e : put_all Int c.args.var a t (take (length c.args.cube.now - (c.args.place + 1)) (drop (c.args.place + 1) c.args.cube.now)) ≡ put_all Int c.args.var (nat_abs c.args.div) (record { terms = c.args.terms.now; constant = c.args.constant }) (drop (c.args.place + 1) c.args.cube.now) = simp (to_z-of_z, take_rest) in
     last_part_refused {A = List Lit} c.add_divides.new.out c.put_each-2.new.out c.args.var (nat_abs c.args.div) (record { terms = c.args.terms.now; constant = c.args.constant }) c.args.cube.now c.args.place [] c.in-Err-put_each.fault p q
     (subst (λ (us : List Lit). AddsCube c.add_divides.new.out c.put_each-2.new.out us (Err c.in-Err-put_each.fault)) e c.in-Err-put_each.ensures)
 
@@ -64,5 +64,5 @@ returns-in-Ok-put_each c =
     let q1 = simp to_z-of_z at c.in-Ok-add_divides.ensures.1 in
     let r0 = simp (to_z-of_z, take_rest) at c.in-Ok-put_each.ensures.0 in
     let r1 = simp (to_z-of_z, take_rest) at c.in-Ok-put_each.ensures.1 in
-    let p2 = p1 ∙ ap (λ (us : List Lit). us ++ put_all c.args.var (nat_abs c.args.div) (record { terms = c.args.terms.now; constant = c.args.constant }) (take c.args.place c.args.cube.now)) c.new-lits.ensures in
+    let p2 = p1 ∙ ap (λ (us : List Lit). us ++ put_all Int c.args.var (nat_abs c.args.div) (record { terms = c.args.terms.now; constant = c.args.constant }) (take c.args.place c.args.cube.now)) c.new-lits.ensures in
     all_parts c.put_each.new.out c.add_divides.new.out c.put_each-2.new.out c.from_lits.result c.args.var (nat_abs c.args.div) (record { terms = c.args.terms.now; constant = c.args.constant }) c.args.cube.now c.args.place (p0, p2) (q0, q1) (r0, r1) c.from_lits.ensures

@@ -31,10 +31,10 @@ loop-lit-preserved c =
     let t : Form = record { terms = c.args.terms.now; constant = to_z w128 (of_z w128 c.args.constant) } in
     let l : Lit = c.lit-item.result in
     let rest : List Lit = drop (k + 1) c.args.lits.now in
-    let e = ap (put_all c.args.var a t) (split_at c.args.lits.now k l c.loop-lit-test.true c.lit-item.is) in
+    let e = ap (put_all Int c.args.var a t) (split_at c.args.lits.now k l c.loop-lit-test.true c.lit-item.is) in
     record {
-      same = added c.loop-lit.out (c.args.out.now ++ put_all c.args.var a t c.args.lits.now) (put_all c.args.var a t rest) c.add_put.new.out (put_lit Int c.args.var a t l) (ap (λ (us : List Lit). c.loop-lit.out ++ us) (sym e) ∙ i.same) u.1;
-      past = past_more (lit_numbers (put_lit Int c.args.var a t l)) (cube_numbers (put_all c.args.var a t rest)) (cube_numbers (put_all c.args.var a t c.args.lits.now)) u.0 (ap (λ (us : List Lit). first_past (cube_numbers us)) (sym e) ∙ i.past);
+      same = added c.loop-lit.out (c.args.out.now ++ put_all Int c.args.var a t c.args.lits.now) (put_all Int c.args.var a t rest) c.add_put.new.out (put_lit Int c.args.var a t l) (ap (λ (us : List Lit). c.loop-lit.out ++ us) (sym e) ∙ i.same) u.1;
+      past = past_more (lit_numbers (put_lit Int c.args.var a t l)) (cube_numbers (put_all Int c.args.var a t rest)) (cube_numbers (put_all Int c.args.var a t c.args.lits.now)) u.0 (ap (λ (us : List Lit). first_past (cube_numbers us)) (sym e) ∙ i.past);
     }
 
 pub returns-in-Err : goal.returns-in-Err
@@ -47,7 +47,7 @@ returns-in-Err c =
     let t : Form = record { terms = c.args.terms.now; constant = to_z w128 (of_z w128 c.args.constant) } in
     let l : Lit = c.lit-item.result in
     let rest : List Lit = drop (k + 1) c.args.lits.now in
-    let e = ap (put_all c.args.var a t) (split_at c.args.lits.now k l c.loop-lit-test.true c.lit-item.is) in
-    let w = lit_refused c.loop-lit.out c.add_put.new.out c.args.out.now c.add_put.new.out (put_lit Int c.args.var a t l) (put_all c.args.var a t rest) (put_all c.args.var a t c.args.lits.now) c.in-Err.fault c.in-Err.ensures (ap (λ (us : List Lit). first_past (cube_numbers us)) (sym e) ∙ i.past) in
-    let all : put_all c.args.var a t c.args.lits.now ≡ put_all c.args.var (nat_abs c.args.div) (record { terms = c.args.terms.now; constant = c.args.constant }) c.args.lits.now = simp to_z-of_z in
+    let e = ap (put_all Int c.args.var a t) (split_at c.args.lits.now k l c.loop-lit-test.true c.lit-item.is) in
+    let w = lit_refused c.loop-lit.out c.add_put.new.out c.args.out.now c.add_put.new.out (put_lit Int c.args.var a t l) (put_all Int c.args.var a t rest) (put_all Int c.args.var a t c.args.lits.now) c.in-Err.fault c.in-Err.ensures (ap (λ (us : List Lit). first_past (cube_numbers us)) (sym e) ∙ i.past) in
+    let all : put_all Int c.args.var a t c.args.lits.now ≡ put_all Int c.args.var (nat_abs c.args.div) (record { terms = c.args.terms.now; constant = c.args.constant }) c.args.lits.now = simp to_z-of_z in
     subst (λ (us : List Lit). AddsCube c.args.out.now c.add_put.new.out us (Err c.in-Err.fault)) all w

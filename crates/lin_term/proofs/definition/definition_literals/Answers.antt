@@ -1,17 +1,23 @@
-use Rattle.std.specs.Prelude.{ℕ, ℤ, ◌≡◌, ◌≤◌, ◌-ℤ◌, pos, neg_ℤ, nat_abs}
+use Rattle.std.specs.Prelude.{ℕ, ℤ, ◌≡◌, ◌≤◌, ◌^◌, ◌-ℤ◌, pos, neg_ℤ, nat_abs}
 use Rattle.std.proofs.Common.{arith, subst, sym, ap, ◌∙◌, w64, to_z, of_z}
 use Rattle.std.proofs.lemmas.Int.{ints}
 use Rattle.lin_term.specs.Form.{cap}
-use Rattle.lin_term.specs.Linear.{rename}
+use Rattle.lin_term.specs.Linear.{Form, rename}
 use Rattle.lin_term.proofs.Terms.{word_of}
 use Rattle.lin_term.proofs.Defining.{kept_upper}
 use Rattle.lin_term.proofs.KeptMoves.{of_word}
-use Rattle.lin_term.proofs.Renamed.{row_below, up_below, upper_made, lower_made}
+use Rattle.lin_term.proofs.AtNames.{few_rise, rising_at, row_below, up_below, upper_made, lower_made}
+use Rattle.lin_term.specs.Rising.{IsRisingAt}
 use Rattle.lin_term.proofs.definition.definition_literals.Goals as goal
 
 minus_is : (z y : ℤ) (n : ℕ) → y ≡ pos 0 -ℤ to_z w64 (of_z w64 z) → nat_abs y ≤ cap → z ≡ pos n → nat_abs z ≤ cap → to_z w64 (of_z w64 y) ≡ neg_ℤ (pos n)
 minus_is z y n e h i l =
     word_of y h ∙ e ∙ ap (λ (x : ℤ). pos 0 -ℤ x) (word_of z l ∙ i) ∙ (let q : pos 0 -ℤ pos n ≡ neg_ℤ (pos n) = omega (arith, ints) in q)
+
+pub renamed_row-requires-clause-rising : goal.renamed_row-requires-clause-rising
+renamed_row-requires-clause-rising c =
+    subst (λ (f : Form). IsRisingAt c.args.names.now f.terms (2 ^ 20)) (sym c.row.ensures)
+    (rising_at c.args.names.now c.args.term.now.numer.terms (2 ^ 20) (few_rise c.args.sort c.args.term.now c.args.names.now c.args.node c.requires) c.requires.named)
 
 pub with_last-requires-clause-below : goal.with_last-requires-clause-below
 with_last-requires-clause-below c =

@@ -1,4 +1,4 @@
-use Rattle.std.proofs.Common.{arith, sym, ◌∙◌}
+use Rattle.std.proofs.Common.{arith, ◌∙◌}
 use Rattle.lin_term.proofs.Divisors.{gcd_step, gcd_zero}
 use Rattle.lin_term.proofs.numbers.gcd_of.Goals as goal
 

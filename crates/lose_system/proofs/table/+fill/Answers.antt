@@ -2,7 +2,8 @@ use Rattle.std.specs.Prelude.{◌+◌, drop}
 use Rattle.std.proofs.Common.{arith, subst, refl, ap}
 use Rattle.game_tree.specs.Skeleton.{Branches, branch_nodes}
 use Rattle.game_tree.specs.View.{skeleton_of, branches_of}
-use Rattle.lose_system.proofs.Filling.{Filled, branches_at, branches_done, length_pushed, fewer_left, filled_first, filled_more, filled_last}
+use Rattle.game_tree.proofs.Views.{branches_at, branches_done, fewer_left}
+use Rattle.lose_system.proofs.Filling.{Filled, length_pushed, filled_first, filled_more, filled_last}
 use Rattle.lose_system.proofs.table.+fill.Goals as goal
 
 pub fill_branches-loop-branch-init : goal.fill_branches-loop-branch-init

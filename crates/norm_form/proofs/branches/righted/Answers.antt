@@ -7,4 +7,4 @@ pub returns-in-Err : goal.returns-in-Err
 returns-in-Err c = λ f cs h. righted_stop f cs c.in-Err.fault (subst (λ r. AreTurnedBack f cs r) c.in-Err.is h)
 
 pub returns-in_ok-flipped-in-Ok : goal.returns-in_ok-flipped-in-Ok
-returns-in_ok-flipped-in-Ok c = λ f cs h k rs. c.in_ok-flipped-in-Ok.ensures k rs ∙ (subst (λ r. AreTurnedBack f cs r) c.in-Ok.is h) k rs
+returns-in_ok-flipped-in-Ok c = λ f cs h k rs. c.in_ok-flipped-in-Ok.ensures.forth k rs ∙ (subst (λ r. AreTurnedBack f cs r) c.in-Ok.is h) k rs

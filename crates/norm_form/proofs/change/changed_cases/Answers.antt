@@ -2,7 +2,7 @@ use Rattle.std.proofs.Common.{subst, sym}
 use Rattle.lin_form.specs.Lin.{lin_neg, lin_over}
 use Rattle.lin_form.specs.Operating.{value_of}
 use Rattle.norm_form.specs.declared.change.Change.{Change}
-use Rattle.norm_form.specs.Cases.{AreBack, changed, stepped}
+use Rattle.norm_form.specs.Cases.{AreBack, changed}
 use Rattle.norm_form.proofs.change.changed_cases.Goals as goal
 
 pub returns-in-Negative : goal.returns-in-Negative
@@ -14,8 +14,3 @@ pub returns-in-Over : goal.returns-in-Over
 returns-in-Over c =
     subst (λ (z : Change). AreBack (λ k. changed z c.args.sort k c.args.level c.args.x) c.single-in-Over.result) (sym c.in-Over.is)
     (c.single-in-Over.ensures (lin_over c.args.x (value_of c.in-Over.by)) c.over.ensures)
-
-pub returns-in-Join : goal.returns-in-Join
-returns-in-Join c =
-    subst (λ (z : Change). AreBack (λ k. changed z c.args.sort k c.args.level c.args.x) c.single-in-Join.result) (sym c.in-Join.is)
-    (c.single-in-Join.ensures (stepped c.in-Join.step c.in-Join.y c.args.x) c.step_taken.ensures)

@@ -1,12 +1,11 @@
-use Rattle.std.proofs.Common.{subst}
-use Rattle.norm_form.specs.declared.change.Change.TheVariants as changes
-use Rattle.norm_form.specs.Cases.{AreCases, changed}
-use Rattle.norm_form.proofs.Running.{back_stop, turned_back_cases}
+use Rattle.std.proofs.Common.{List, subst}
+use Rattle.norm_form.specs.declared.branches.Case.{Case}
+use Rattle.norm_form.specs.Cases.{AreBack, AreBothBack, joined}
+use Rattle.norm_form.proofs.Running.{both_back_cases, both_back_stop}
 use Rattle.norm_form.proofs.change.joined_back.Goals as goal
 
 pub returns-in-Err : goal.returns-in-Err
-returns-in-Err c = λ g h. back_stop (λ k. changed (changes.Join c.args.step c.args.x) c.args.sort k) g c.in-Err.fault (subst (λ r. AreCases g r) c.in-Err.is h)
+returns-in-Err c = λ g h. both_back_stop (joined c.args.step c.args.x.now) g c.in-Err.fault (subst (λ r. AreBack g r) c.in-Err.is h)
 
-pub returns : goal.returns
-returns c = λ g h.
-    turned_back_cases (λ k. changed (changes.Join c.args.step c.args.x) c.args.sort k) g c.in-Ok.cases c.turned_back.result (subst (λ r. AreCases g r) c.in-Ok.is h) c.turned_back.ensures
+pub returns-in-Ok : goal.returns-in-Ok
+returns-in-Ok c = λ g h. both_back_cases (joined c.args.step c.args.x.now) g c.in-Ok.cases c.joined_each.result (subst (λ r. AreBack g r) c.in-Ok.is h) (subst (λ (cs : List Case). AreBothBack (joined c.args.step c.args.x.now) cs c.joined_each.result) c.as_slice.ensures c.joined_each.ensures)

@@ -2,7 +2,7 @@ use Rattle.std.proofs.Common.{ℕ, List, ◌≡◌, ◌+◌, ◌∙◌, ap, ap�
 use Rattle.dom_core.specs.declared.Matrix.{Matrix as Tree}
 use Rattle.dom_core.specs.Game.{Matrix, Matrices, more}
 use Rattle.dom_core.specs.View.{matrix_of, matrices_of}
-use Rattle.norm_form.specs.declared.Normal.{Normal as Built}
+use Rattle.norm_form.specs.declared.LevelForm.{LevelForm as Built}
 use Rattle.norm_form.specs.Normal.{Normals, part, no_part}
 use Rattle.norm_form.specs.View.{shape_of, shapes_of}
 use Rattle.prenex_form.specs.Pass.{taken, taken_parts, put, put_parts, HaveRoom, CanPutAll, AllTidy}

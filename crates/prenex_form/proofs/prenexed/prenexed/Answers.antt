@@ -5,7 +5,7 @@ use Rattle.norm_form.specs.Load.{weigh}
 use Rattle.norm_form.specs.View.{shape_of}
 use Rattle.prenex_form.specs.Prenex.{prenex, quants}
 use Rattle.prenex_form.specs.Pass.{taken, put, starts, sum_of, HasRoom, CanPut}
-use Rattle.prenex_form.specs.Whole.{binder_rate}
+use Rattle.norm_form.specs.Outcome.{binder_rate}
 use Rattle.prenex_form.proofs.Blocks.{counted_blocks}
 use Rattle.prenex_form.proofs.Counted.{blocks_are}
 use Rattle.prenex_form.proofs.Handing.{whole_put}

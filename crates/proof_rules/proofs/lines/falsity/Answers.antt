@@ -10,12 +10,12 @@ pub returns-in_default : goal.returns-in_default
 returns-in_default g c = λ bare n.
     false_none g.D.Domain.SORT c.args.system.now bare n c.args.f c.args.facts.now (ap (option_map (λ l. l.value)) (sym c.in_default.is) ∙ c.in_ok-lit.ensures.value bare)
 
-pub returns-then-is_false : goal.returns-then-is_false
-returns-then-is_false g c = λ bare n.
+pub returns-then-is_false_literal : goal.returns-then-is_false_literal
+returns-then-is_false_literal g c = λ bare n.
     false_tested g.D.Domain.SORT c.args.system.now bare n c.args.f c.args.facts.now c.in-Some.lit.value _ (ap (option_map (λ l. l.value)) (sym c.in-Some.is) ∙ c.in_ok-lit.ensures.value bare)
-    (ap (λ (l : Lit). is_false (truth_of l)) (sym c.deref.ensures) ∙ sym c.is_false.ensures ∙ c.if-is_false.true)
+    (ap (λ (l : Lit). is_false (truth_of l)) (sym c.deref.ensures) ∙ sym c.is_false_literal.ensures ∙ c.if-is_false_literal.true)
 
 pub returns : goal.returns
 returns g c = λ bare n.
     false_tested g.D.Domain.SORT c.args.system.now bare n c.args.f c.args.facts.now c.in-Some.lit.value _ (ap (option_map (λ l. l.value)) (sym c.in-Some.is) ∙ c.in_ok-lit.ensures.value bare)
-    (ap (λ (l : Lit). is_false (truth_of l)) (sym c.deref.ensures) ∙ sym c.is_false.ensures ∙ c.if-is_false.false)
+    (ap (λ (l : Lit). is_false (truth_of l)) (sym c.deref.ensures) ∙ sym c.is_false_literal.ensures ∙ c.if-is_false_literal.false)

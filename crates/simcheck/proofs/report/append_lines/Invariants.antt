@@ -11,6 +11,6 @@ abbrev pub invariant-loop-i : goal.invariant-loop-i
 invariant-loop-i g l =
     (l.text.items ++ lines g.D.Domain.SORT (map problem_of (drop l.i l.problems)) (drop l.i l.sections) ≡ l.initial.text.items ++ lines g.D.Domain.SORT (map problem_of l.problems) l.sections)
     × ((l.rejected || any_rejected g.D.Domain.SORT (map problem_of (drop l.i l.problems)) (drop l.i l.sections)) ≡ any_rejected g.D.Domain.SORT (map problem_of l.problems) l.sections)
-    × (EachWins g.D.Domain.SORT (drop l.i l.problems) (drop l.i l.sections) → EachWins g.D.Domain.SORT l.problems l.sections)
+    × (EachWins g.D.Domain.SORT (map problem_of (drop l.i l.problems)) (drop l.i l.sections) → EachWins g.D.Domain.SORT (map problem_of l.problems) l.sections)
     × AllByRecursion IsSection (drop l.i l.sections)
     × AllByRecursion (λ x. line_of x < 2 ^ 63) (drop l.i l.sections)

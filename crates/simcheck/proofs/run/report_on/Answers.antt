@@ -1,4 +1,4 @@
-use Rattle.std.proofs.Common.{rules, arith, IfOk, map, string_bytes, Global}
+use Rattle.std.proofs.Common.{rules, IfOk, map, string_bytes, Global}
 use Rattle.simcheck.specs.Words.{names_of}
 use Rattle.simcheck.specs.Answer.{Answers, answer_of}
 use Rattle.simcheck.proofs.Telling.{usage_after}

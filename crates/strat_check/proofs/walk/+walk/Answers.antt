@@ -2,7 +2,7 @@ use Rattle.std.specs.Prelude.{◌+◌, ◌≡◌, suc, drop}
 use Rattle.std.proofs.Common.{arith, ap, sym, ◌∙◌, subst}
 use Rattle.game_tree.specs.Skeleton.{Branches, branch_nodes}
 use Rattle.game_tree.specs.View.{skeleton_of, branches_of}
-use Rattle.lose_system.proofs.Filling.{branches_at, fewer_left}
+use Rattle.game_tree.proofs.Views.{branches_at, fewer_left}
 use Rattle.strat_check.specs.Section.{is_kept}
 use Rattle.strat_check.proofs.Walking.{Walked, walked_more, walked_below, fit_below, tree_lines_few}
 use Rattle.strat_check.proofs.walk.+walk.Goals as goal

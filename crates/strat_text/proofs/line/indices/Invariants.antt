@@ -1,5 +1,6 @@
 use Rattle.std.proofs.Common.{◌≡◌, ◌≤◌, ◌+◌, ◌-◌, length}
 use Rattle.strat_words.specs.Many.{many}
+use Rattle.strat_words.specs.Spot.{number_behind_space}
 use Rattle.strat_words.specs.View.{spot}
 use Rattle.strat_text.specs.Line as spec
 use Rattle.strat_words.proofs.Loops.{with_front}
@@ -7,7 +8,7 @@ use Rattle.strat_text.proofs.line.indices.Given as goal
 
 abbrev pub invariant-loop-rest : goal.invariant-loop-rest
 invariant-loop-rest l = record {
-  so_far : with_front l.all (many spec.any_index spec.unchanged (length l.at.rest.now - length l.all) tt (spot l.rest)) ≡ spec.indices (spot l.at);
+  so_far : with_front l.all (many number_behind_space spec.any_index spec.unchanged (length l.at.rest.now - length l.all) tt (spot l.rest)) ≡ spec.indices (spot l.at);
   within : length l.rest.rest.now + length l.all ≤ length l.at.rest.now;
 }
 

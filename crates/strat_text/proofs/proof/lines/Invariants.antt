@@ -7,7 +7,7 @@ use Rattle.strat_text.proofs.proof.lines.Given as goal
 
 abbrev pub invariant-loop : goal.invariant-loop
 invariant-loop l = record {
-  so_far : with_front l.all (times spec.proof_line spec.open_behind (l.count - l.counter) l.waiting (spot l.rest)) ≡ times spec.proof_line spec.open_behind l.count 1 (spot l.at);
+  so_far : with_front l.all (times (spec.proof_line l.version) spec.open_behind (l.count - l.counter) l.waiting (spot l.rest)) ≡ times (spec.proof_line l.version) spec.open_behind l.count 1 (spot l.at);
   state : l.waiting ≡ state_behind spec.open_behind 1 l.all;
   within : l.waiting ≤ 1 + l.counter * 2 ^ 64;
 }

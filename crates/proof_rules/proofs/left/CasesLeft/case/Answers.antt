@@ -8,9 +8,9 @@ unreachable-requires c =
     let e = c.self.inside in
     let i = c.self.invariant in
     no_fault (cube_numbers (case_at e.elimination.cube e.elimination.variable e.next)) (case_at e.elimination.cube e.elimination.variable e.next) c.in-Err-Fault.field-0 c.in-Err-Fault.field-0-0
-    (case_fits e.elimination.cube e.elimination.variable e.next i.fits i.some) c.in-Err-Fault.ensures c.in-Err-Fault.field-0-is
+    (case_fits e.elimination.cube e.elimination.variable e.next i.fits i.some) c.in-Err-Fault.ensures.value c.in-Err-Fault.field-0-is
 
 pub returns-in-Ok-clause-primitive : goal.returns-in-Ok-clause-primitive
 returns-in-Ok-clause-primitive c =
     let e = c.self.inside in
-    case_primitive e.elimination.cube c.in-Ok.case e.elimination.variable e.next c.self.invariant.primitive c.in-Ok.ensures.1 c.in-Ok.ensures.0
+    case_primitive e.elimination.cube c.in-Ok.case e.elimination.variable e.next c.self.invariant.primitive c.in-Ok.ensures.value.1 c.in-Ok.ensures.value.0

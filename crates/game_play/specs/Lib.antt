@@ -1,0 +1,4 @@
+pub mod Beats
+pub mod Worth
+pub mod Course
+pub mod Play

@@ -1,0 +1,5 @@
+pub mod Views
+pub mod Counts
+pub mod Zeros
+pub mod Sames
+pub mod Followed
