@@ -15,5 +15,9 @@ pub mod Picking
 pub mod PickInt
 pub mod PickRat
 pub mod PutMoves
+pub mod Selecting
 pub mod Eliminating
 pub mod AddingLemmas
+pub mod Distincts
+pub mod Bounding
+pub mod Shifting

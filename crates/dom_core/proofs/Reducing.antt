@@ -39,10 +39,10 @@ use Rattle.dom_core.proofs.Renaming.{times_below, plus_below, prim_below}
 
 -- ---- terms without a variable
 
-abbrev Lacks : ℕ → List (ℕ × ℤ) → Type 0
+abbrev pub Lacks : ℕ → List (ℕ × ℤ) → Type 0
 Lacks x ts = AllByRecursion (λ (t : ℕ × ℤ). t.0 ≢ x) ts
 
-lacks_from : (ts : List (ℕ × ℤ)) (x : ℕ) → occurs ts x ≡ false → Lacks x ts
+pub lacks_from : (ts : List (ℕ × ℤ)) (x : ℕ) → occurs ts x ≡ false → Lacks x ts
 lacks_from [] x e = tt
 lacks_from (t ∷ ts) x e = by (eqb t.0 x) refl e (λ u. lacks_from ts x u)
   where
@@ -50,7 +50,7 @@ lacks_from (t ∷ ts) x e = by (eqb t.0 x) refl e (λ u. lacks_from ts x u)
     by true q k r = absurd (cc)
     by false q k r = (eqb-false t.0 x q, r k)
 
-lacks_to : (ts : List (ℕ × ℤ)) (x : ℕ) → Lacks x ts → occurs ts x ≡ false
+pub lacks_to : (ts : List (ℕ × ℤ)) (x : ℕ) → Lacks x ts → occurs ts x ≡ false
 lacks_to [] x h = refl
 lacks_to (t ∷ ts) x h = by (eqb t.0 x) refl (lacks_to ts x h.1)
   where
@@ -99,7 +99,7 @@ plus_lacks : (x : ℕ) (ss ts : List (ℕ × ℤ)) → Lacks x ss → Lacks x ts
 plus_lacks x [] ts a b = b
 plus_lacks x (s ∷ ss) ts a b = put_lacks x s.0 s.1 (plus_terms ss ts) a.0 (plus_lacks x ss ts a.1 b)
 
-without_lacks : (x : ℕ) (ts : List (ℕ × ℤ)) → Lacks x (without ts x)
+pub without_lacks : (x : ℕ) (ts : List (ℕ × ℤ)) → Lacks x (without ts x)
 without_lacks x [] = tt
 without_lacks x (t ∷ ts) = by (eqb t.0 x) refl (without_lacks x ts)
   where
@@ -107,7 +107,7 @@ without_lacks x (t ∷ ts) = by (eqb t.0 x) refl (without_lacks x ts)
     by true q r = r
     by false q r = (eqb-false t.0 x q, r)
 
-quotient_lacks : (x : ℕ) (ts : List (ℕ × ℤ)) (g : ℕ) → Lacks x ts → Lacks x (quotient_terms ts g)
+pub quotient_lacks : (x : ℕ) (ts : List (ℕ × ℤ)) (g : ℕ) → Lacks x ts → Lacks x (quotient_terms ts g)
 quotient_lacks x [] g b = tt
 quotient_lacks x (t ∷ ts) g b = (b.0, quotient_lacks x ts g b.1)
 
@@ -170,14 +170,14 @@ prim_ascends Int (NotDivides d f) a = residue_ascends d f a
 
 -- ---- both, and below n
 
-abbrev IsFit : ℕ → ℕ → Form → Type 0
+abbrev pub IsFit : ℕ → ℕ → Form → Type 0
 IsFit n x f = Ascend 0 f.terms × BelowTerms n f.terms × Lacks x f.terms
 
-plus_fit : (n x : ℕ) (f g : Form) → IsFit n x f → IsFit n x g → IsFit n x (plus f g)
+pub plus_fit : (n x : ℕ) (f g : Form) → IsFit n x f → IsFit n x g → IsFit n x (plus f g)
 plus_fit n x f g a b =
     (plus_ascend 0 f.terms g.terms a.0 b.0, plus_below n f.terms g.terms a.1 b.1, plus_lacks x f.terms g.terms a.2 b.2)
 
-times_fit : (n x : ℕ) (k : ℤ) (f : Form) → IsFit n x f → IsFit n x (times k f)
+pub times_fit : (n x : ℕ) (k : ℤ) (f : Form) → IsFit n x f → IsFit n x (times k f)
 times_fit n x k f a = (times_ascend 0 k f.terms a.0, times_below n k f.terms a.1, times_lacks x k f.terms a.2)
 
 prim_fit : (n x : ℕ) (s : Sort) (l : Lit) → IsFit n x (form_of l) → IsFit n x (form_of (prim s l))
@@ -190,7 +190,7 @@ without_below n x (t ∷ ts) b =
     (λ e. without_below n x ts b.1)
     (λ e. (b.0, without_below n x ts b.1))
 
-rest_fit : (n x : ℕ) (f : Form) → IsRow f → Below n f → IsFit n x (rest_of f x)
+pub rest_fit : (n x : ℕ) (f : Form) → IsRow f → Below n f → IsFit n x (rest_of f x)
 rest_fit n x f r b =
     (without_ascend 0 f.terms x (ascend_from 0 f.terms r.0), without_below n x f.terms b, without_lacks x f.terms)
 
@@ -198,7 +198,7 @@ put_fit : (n x a : ℕ) (t f : Form) → IsFit n x t → IsRow f → Below n f �
 put_fit n x a t f h r b =
     plus_fit n x (times (coef f.terms x) t) (times (pos a) (rest_of f x)) (times_fit n x (coef f.terms x) t h) (times_fit n x (pos a) (rest_of f x) (rest_fit n x f r b))
 
-raw_fit : (n x a : ℕ) (t : Form) (l : Lit) → IsFit n x t → IsRow (form_of l) → Below n (form_of l) → IsFit n x (form_of (put_raw x a t l))
+pub raw_fit : (n x a : ℕ) (t : Form) (l : Lit) → IsFit n x t → IsRow (form_of l) → Below n (form_of l) → IsFit n x (form_of (put_raw x a t l))
 raw_fit n x a t (AtLeast f) h r b = put_fit n x a t f h r b
 raw_fit n x a t (Above f) h r b = put_fit n x a t f h r b
 raw_fit n x a t (Divides d f) h r b = put_fit n x a t f h r b
@@ -207,22 +207,22 @@ raw_fit n x a t (NotDivides d f) h r b = put_fit n x a t f h r b
 -- ---- literals
 
 -- what is known of a literal of the cube
-record Given (s : Sort) (n : ℕ) (l : Lit) : Type 0 where
-  primitive : IsPrimitive s l
-  primable : IsPrimable s l
-  row : IsRow (form_of l)
-  below : Below n (form_of l)
+pub record Given (s : Sort) (n : ℕ) (l : Lit) : Type 0 where
+  pub primitive : IsPrimitive s l
+  pub primable : IsPrimable s l
+  pub row : IsRow (form_of l)
+  pub below : Below n (form_of l)
 
 -- and of one of an eliminated cube
-record Kept (s : Sort) (n x : ℕ) (l : Lit) : Type 0 where
-  primitive : IsPrimitive s l
-  primable : IsPrimable s l
-  row : IsRow (form_of l)
-  below : Below n (form_of l)
-  without : occurs (form_of l).terms x ≡ false
+pub record Kept (s : Sort) (n x : ℕ) (l : Lit) : Type 0 where
+  pub primitive : IsPrimitive s l
+  pub primable : IsPrimable s l
+  pub row : IsRow (form_of l)
+  pub below : Below n (form_of l)
+  pub without : occurs (form_of l).terms x ≡ false
 
 -- where its numbers are within the cap
-abbrev Promised : Sort → ℕ → ℕ → Lit → Type 0
+abbrev pub Promised : Sort → ℕ → ℕ → Lit → Type 0
 Promised s n x l = first_past (lit_numbers l) ≡ None → Kept s n x l
 
 form_fits : (l : Lit) → first_past (lit_numbers l) ≡ None → first_past (form_numbers (form_of l)) ≡ None
@@ -241,7 +241,7 @@ fits_primable Int (Above f) o e = tt
 fits_primable Int (Divides d f) o e = (o, past-head (pos d) (form_numbers f) e)
 fits_primable Int (NotDivides d f) o e = (o, past-head (pos d) (form_numbers f) e)
 
-made : (s : Sort) (n x : ℕ) (l : Lit) → IsOf s (prim s l) → IsFit n x (form_of l) → Promised s n x (prim s l)
+pub made : (s : Sort) (n x : ℕ) (l : Lit) → IsOf s (prim s l) → IsFit n x (form_of l) → Promised s n x (prim s l)
 made s n x l o f e =
     let g = prim_fit n x s l f in
     record {
@@ -252,7 +252,7 @@ made s n x l o f e =
       without = lacks_to (form_of (prim s l)).terms x g.2;
     }
 
-stays : (s : Sort) (n x : ℕ) (l : Lit) → Given s n l → occurs (form_of l).terms x ≡ false → Promised s n x l
+pub stays : (s : Sort) (n x : ℕ) (l : Lit) → Given s n l → occurs (form_of l).terms x ≡ false → Promised s n x l
 stays s n x l g o e = record { primitive = g.primitive; primable = g.primable; row = g.row; below = g.below; without = o }
 
 -- ---- Rat
@@ -321,7 +321,7 @@ pub all_two : {A : Type 0} (F G H : A → Type 0) (xs : List A) → ((x : A) →
 all_two F G H [] k a b = tt
 all_two F G H (x ∷ xs) k a b = (k x a.0 b.0, all_two F G H xs k a.1 b.1)
 
-past_right : (xs ys : List ℤ) → first_past (xs ++ ys) ≡ None → first_past ys ≡ None
+pub past_right : (xs ys : List ℤ) → first_past (xs ++ ys) ≡ None → first_past ys ≡ None
 past_right xs ys e = sym (past-append xs ys (past-append_left xs ys e)) ∙ e
 
 parts_fit : {A : Type 0} (g : A → List ℤ) (xs : List A) → first_past (flat_map g xs) ≡ None → AllByRecursion (λ x. first_past (g x) ≡ None) xs
@@ -394,7 +394,7 @@ cases_kept n x c h =
 
 -- ---- both sorts
 
-given_all : (s : Sort) (n : ℕ) (c : List Lit) → IsPrimitiveCube s c → AreRows c → AreBelow n c → AllByRecursion (Given s n) c
+pub given_all : (s : Sort) (n : ℕ) (c : List Lit) → IsPrimitiveCube s c → AreRows c → AreBelow n c → AllByRecursion (Given s n) c
 given_all s n [] p r b = tt
 given_all s n (l ∷ c) p r b = (record { primitive = p.0; primable = p.1; row = r.0; below = b.0 }, given_all s n c p.2 r.1 b.1)
 
@@ -402,7 +402,7 @@ primitive_all : (s : Sort) (n x : ℕ) (c : List Lit) → AllByRecursion (Kept s
 primitive_all s n x [] k = tt
 primitive_all s n x (l ∷ c) k = (k.0.primitive, k.0.primable, primitive_all s n x c k.1)
 
-reduced : (s : Sort) (n x : ℕ) (c : List Lit) → AllByRecursion (Promised s n x) c → first_past (cube_numbers c) ≡ None → IsReduced s n x c
+pub reduced : (s : Sort) (n x : ℕ) (c : List Lit) → AllByRecursion (Promised s n x) c → first_past (cube_numbers c) ≡ None → IsReduced s n x c
 reduced s n x c p e =
     let k = each_two (Promised s n x) (λ l. first_past (lit_numbers l) ≡ None) (Kept s n x) c (λ l a b. a b) p (parts_fit lit_numbers c e) in
     record {
@@ -445,7 +445,7 @@ case_reduced c x i (Err e) p r l h = tt
 
 -- ---- the last variable
 
-terms_less : (x : ℕ) (ts : List (ℕ × ℤ)) → Lacks x ts → BelowTerms (suc x) ts → BelowTerms x ts
+pub terms_less : (x : ℕ) (ts : List (ℕ × ℤ)) → Lacks x ts → BelowTerms (suc x) ts → BelowTerms x ts
 terms_less x [] h b = tt
 terms_less x (t ∷ ts) h b = let n = h.0 in let o = b.0 in (omega (arith, n), terms_less x ts h.1 b.1)
 

@@ -9,3 +9,6 @@ pub mod PutMove
 pub mod Sides
 pub mod Elimination
 pub mod Adding
+pub mod Distinct
+pub mod Bound
+pub mod Ties

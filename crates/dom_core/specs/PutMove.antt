@@ -27,11 +27,15 @@ abbrev pub evenness : Sort → Move → ℕ → List Lit
 evenness Rat m r = []
 evenness Int m r = prim Int (Divides m.div (less_residue m r)) ∷ []
 
+-- the move less a residue in place of x in each literal
+abbrev pub substituted_all : Sort → ℕ → Move → ℕ → List Lit → List Lit
+substituted_all s x m r c = map (λ l. substituted s l x m r) c
+
 -- the move in place of x in each literal, at a point
 abbrev pub put_in : Sort → ℕ → Move → Point → List Lit → List Lit
 put_in s x m p c =
     let r = remainder s m p in
-    with_new [] (map (λ l. substituted s l x m r) c ++ evenness s m r)
+    with_new [] (substituted_all s x m r c ++ evenness s m r)
 
 -- the numbers in the order in which they are formed
 abbrev pub put_in_numbers : Sort → ℕ → Move → Point → List Lit → List ℤ

@@ -3,3 +3,4 @@ pub mod Places
 pub mod Numerators
 pub mod Adding
 pub mod ExampleLemmas
+mod Congruents

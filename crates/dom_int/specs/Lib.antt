@@ -3,3 +3,4 @@ pub mod Place
 pub mod Case
 pub mod Target
 pub mod Example
+pub mod Congruent

@@ -1,8 +1,10 @@
 //! The integers as a domain.
 
 use crate::elimination::eliminate;
+use crate::picking::pick;
+use crate::putting::put_in;
 use dom_core::{Cube, Domain};
-use lin_term::{Defined, Memory, Move, Short, Sort, Wide, definition_literals};
+use lin_term::{Defined, Memory, Move, Point, Short, Sort, Wide, definition_literals};
 use sqlite_items::Items;
 use std::alloc::Global;
 
@@ -27,6 +29,20 @@ impl Domain for Int {
 
     fn eliminate(alloc: Global, cube: &Cube, var: u32) -> Result<Items<Cube>, Short<Wide>> {
         eliminate(alloc, cube, var)
+    }
+
+    fn pick(alloc: Global, cube: &Cube, var: u32, point: &Point) -> Result<Move, Short<Wide>> {
+        pick(alloc, cube, var, point)
+    }
+
+    fn put_in(
+        alloc: Global,
+        cube: &Cube,
+        var: u32,
+        term: &Move,
+        point: &Point,
+    ) -> Result<Cube, Short<Wide>> {
+        put_in(alloc, cube, var, term, point)
     }
 
     ghost fixes = { λ m names v p. names_fix whole m names v p };

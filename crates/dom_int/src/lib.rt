@@ -6,7 +6,10 @@ mod count;
 mod elimination;
 mod int;
 mod period;
+mod picking;
 mod place;
+mod putting;
+mod residue;
 
 pub use elimination::Elimination;
 pub use int::Int;

@@ -2,6 +2,8 @@
 #![tactic(auto)]
 
 mod fourier_motzkin;
+mod picking;
+mod putting;
 mod rat;
 
 pub use rat::Rat;

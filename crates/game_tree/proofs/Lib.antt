@@ -3,3 +3,10 @@ pub mod Counts
 pub mod Zeros
 pub mod Sames
 pub mod Followed
+pub mod Unions
+pub mod Gathers
+pub mod Placing
+pub mod Turning
+pub mod PathsIn
+pub mod Merges
+pub mod Sizes

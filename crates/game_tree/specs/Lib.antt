@@ -2,3 +2,9 @@ pub mod Skeleton
 pub mod View
 pub mod Written
 pub mod Distinct
+pub mod Among
+pub mod Union
+pub mod Leaves
+pub mod Gather
+pub mod Known
+pub mod Full

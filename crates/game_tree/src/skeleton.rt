@@ -2,20 +2,26 @@
 
 ghost use Rattle.std.specs.Prelude.{◌≡◌, ◌≤◌, ◌↔◌, IsTrue, IfOk, MatchOption, length};
 ghost use Rattle.game_tree.specs.Skeleton.{nodes, paths, zero_tree as zero_tree_of};
+ghost use Rattle.game_tree.specs.Union.{In, union};
 ghost use Rattle.game_tree.specs.View.{skeleton_of};
 ghost use Rattle.game_tree.specs.Written.{WrittenSkeleton, FollowsPrefix, IsWithinLimit};
 
+use crate::containing::has_paths;
 use crate::counting::{leaf_count, node_count};
 use crate::following::{follows, is_within_limit};
 use crate::lent::SkeletonRef;
 use crate::same::{is_same_prefix, is_same_tree};
 use crate::tree::Tree;
+use crate::union::merge_two;
 use crate::zero::zero_tree;
 use dom_core::{Domain, Quant};
 use lin_term::Memory;
 use sqlite_items::Items;
 use std::alloc::Global;
 use std::marker::{Model, PhantomData};
+
+/// More nodes than any memory holds: 2^62.
+const COUNT: u64 = 4_611_686_018_427_387_904;
 
 /// A strategy of Exists, the owner, along a prefix of at most 1,024 variables: one child at each variable of Forall, one
 /// or more distinct moves over earlier variables at each of Exists. Each move is in lowest form, and it and its two
@@ -119,6 +125,34 @@ impl<D: Domain> Skeleton<D> {
             return false;
         }
         is_same_tree(&self.tree, &other.tree)
+    }
+
+    /// The paths of both, along the same prefix: the moves of this skeleton keep their order, and new ones follow in the
+    /// order of the other. It takes n log n comparisons at a node with n moves, and refuses only for memory, which no
+    /// union of more than 2^62 nodes has; the union may have more than 1,048,576 nodes.
+    pub fn merge(&self, alloc: Global, other: &Skeleton<D>) -> Result<Skeleton<D>, Memory>
+        requires { self.now.prefix ≡ other.now.prefix }
+        ensures prefix { IfOk result (λ S. S.prefix ≡ self.now.prefix) }
+        ensures union { IfOk result (λ S. skeleton_of S.tree ≡ union (skeleton_of self.now.tree) (skeleton_of other.now.tree)) }
+    {
+        let own = self.tree();
+        let others = other.tree();
+        if self.nodes() + other.nodes() > COUNT {
+            return Err(Memory);
+        }
+        let first = own.copy(alloc)?;
+        let second = others.copy(alloc)?;
+        let tree = merge_two(alloc, first, second)?;
+        let prefix = Items::from_slice(alloc, self.prefix())?;
+        Ok(Skeleton::from_parts(prefix, tree))
+    }
+
+    /// Whether every path of the other skeleton is a path of this one. It takes n log n comparisons at a node with n moves;
+    /// where it is refused memory for that, it compares them one by one and answers the same.
+    pub fn contains(&self, alloc: Global, other: &Skeleton<D>) -> bool
+        ensures { IsTrue result ↔ In (skeleton_of other.now.tree) (skeleton_of self.now.tree) }
+    {
+        has_paths(alloc, self.tree(), other.tree())
     }
 
     /// The skeleton, lent.

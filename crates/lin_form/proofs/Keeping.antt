@@ -66,3 +66,13 @@ coefficient_past x z a =
 pub constant_past : (x : Lin) → fits x.form.constant ≡ false → within (lins_numbers (x ∷ [])) ≡ false
 constant_past x a =
     one_form x ∙ and_right (fits (pos x.den)) (within (coefficients x.form.terms) && fits x.form.constant) (and_right (within (coefficients x.form.terms)) (fits x.form.constant) a)
+
+-- two numbers are within the cap in either order
+pub swapped : (a b : ℤ) → within (a ∷ b ∷ []) ≡ within (b ∷ a ∷ [])
+swapped a b = by (fits a) (fits b)
+  where
+    by : (p q : Bool) → p && (q && true) ≡ q && (p && true)
+    by true true = refl
+    by true false = refl
+    by false true = refl
+    by false false = refl

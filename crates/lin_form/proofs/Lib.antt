@@ -8,3 +8,4 @@ pub mod Forming
 pub mod Constants
 pub mod Lists
 pub mod Whole
+pub mod Fractions

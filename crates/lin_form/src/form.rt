@@ -10,8 +10,8 @@ ghost use Rattle.lin_form.specs.Outcome.{Formed};
 
 use crate::fault::FormFault;
 use lin_term::{
-    CAP, Coefs, Memory, Row, Short, Wide, common_of_sum, floor_quotient, gcd_of, is_within,
-    product, quotients_of_sum,
+    CAP, Coefs, Fraction, Memory, Row, Short, Wide, common_of_sum, floor_quotient, gcd_of,
+    is_within, product, quotients_of_sum,
 };
 use smallvec::SmallVec;
 use std::alloc::Global;
@@ -171,7 +171,20 @@ pub fn lowest_value(alloc: Global, num: i128, den: u128) -> Result<LinForm, Form
     ensures { let lin : Lin = as_lin (lowest (record { num = num; den = den })) in
         Formed (lin ∷ []) lin result }
 {
-    reduced_sum(alloc, den, num, 0, &[], 0, &[])
+    match Fraction::make(num, den as i128) {
+        Ok(value) => Ok(form_of(alloc, value)),
+        Err(_) => Err(FormFault::Number),
+    }
+}
+
+/// The fraction as a form without variables.
+fn form_of(alloc: Global, value: Fraction) -> LinForm
+    ensures { result ≡ as_lin value }
+{
+    LinForm {
+        row: Row::constant(alloc, value.num()),
+        den: value.den() as u64,
+    }
 }
 
 /// p times x and q times y over both denominators, in lowest terms.

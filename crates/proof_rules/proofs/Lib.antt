@@ -16,3 +16,4 @@ pub mod CheckLemmas
 pub mod Refuted
 pub mod FirstBad
 pub mod Splicing
+pub mod WonLemmas

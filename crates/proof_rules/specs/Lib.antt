@@ -6,3 +6,5 @@ pub mod Stack
 pub mod Begun
 pub mod Stepping
 pub mod Writable
+pub mod Won
+pub mod Idle

@@ -16,6 +16,7 @@ mod parts;
 mod rules;
 mod spliced;
 mod state;
+mod won;
 
 pub use bad_line::BadLine;
 pub use checker::check;
@@ -23,3 +24,4 @@ pub use clause::Clause;
 pub use fact::Fact;
 pub use spliced::proof_allows_bare;
 pub use state::ProofState;
+pub use won::Won;

@@ -5,3 +5,4 @@ pub mod Files
 pub mod Appending
 pub mod MoveLists
 pub mod Faults
+pub mod TreeLaws

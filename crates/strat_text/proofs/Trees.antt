@@ -107,16 +107,16 @@ proof_again version s xs z i has e =
 
 -- ---- the spelling of a tree, level by level
 
-spelled_end : spelled.tree trees.End ≡ []
+pub spelled_end : spelled.tree trees.End ≡ []
 spelled_end = ap spelled.tree (sym rolls-End) ∙ fold-roll-Tree (List ℕ) (List ℕ) spelled.tree_step spelled.branch_step Tree-F.End
 
-spelled_theirs : (t : Tree) → spelled.tree (trees.Theirs t) ≡ codes "t" ++ (10 ∷ spelled.tree t)
+pub spelled_theirs : (t : Tree) → spelled.tree (trees.Theirs t) ≡ codes "t" ++ (10 ∷ spelled.tree t)
 spelled_theirs t = ap spelled.tree (sym (rolls-Theirs t)) ∙ fold-roll-Tree (List ℕ) (List ℕ) spelled.tree_step spelled.branch_step (Tree-F.Theirs t)
 
-spelled_mine : (bs : List Branch) → spelled.tree (trees.Mine bs) ≡ codes "o" ++ (spelled.natural (length (map spelled.branch bs)) ++ (10 ∷ concat (map spelled.branch bs)))
+pub spelled_mine : (bs : List Branch) → spelled.tree (trees.Mine bs) ≡ codes "o" ++ (spelled.natural (length (map spelled.branch bs)) ++ (10 ∷ concat (map spelled.branch bs)))
 spelled_mine bs = ap spelled.tree (sym (rolls-Mine bs)) ∙ fold-roll-Tree (List ℕ) (List ℕ) spelled.tree_step spelled.branch_step (Tree-F.Mine bs)
 
-spelled_branch : (m : Move) (t : Tree) → spelled.branch (record { term = m; rest = t }) ≡ spelled.move_words m ++ (10 ∷ spelled.tree t)
+pub spelled_branch : (m : Move) (t : Tree) → spelled.branch (record { term = m; rest = t }) ≡ spelled.move_words m ++ (10 ∷ spelled.tree t)
 spelled_branch m t = ap spelled.branch (sym (rolls-Branch' (record { term = m; rest = t }))) ∙ fold-roll-Branch (List ℕ) (List ℕ) spelled.tree_step spelled.branch_step (record { term = m; rest = t })
 
 -- ---- a move line

@@ -7,3 +7,4 @@ pub mod File
 pub mod Spelling
 pub mod Seen
 pub mod Fault
+pub mod TreeText

@@ -20,4 +20,4 @@ pub use strat_words::FileFault;
 pub use writing::write_file;
 
 // That a file and its sections give each other.
-pub use unique::{one_spelling, one_value};
+pub use unique::{one_spelling, one_tree_text, one_value};
