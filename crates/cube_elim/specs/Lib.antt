@@ -1,0 +1,16 @@
+pub mod Among
+pub mod Determined
+pub mod WideCubes
+pub mod Values
+pub mod Deciding
+pub mod Answers
+pub mod Searching
+pub mod Ending
+pub mod Stored
+pub mod Parted
+pub mod Summed
+pub mod Between
+pub mod Climbing
+pub mod Reaching
+pub mod Written
+pub mod Outcomes
