@@ -1,0 +1,16 @@
+pub mod RenamedForms
+pub mod RenamedCases
+pub mod RenamedSteps
+pub mod PrunedPaths
+pub mod PrunedNodes
+pub mod PrunedDefinitions
+pub mod RenamedProofs
+pub mod TrimmedSystem
+pub mod Needed
+pub mod TrimmedProofs
+pub mod TrimLemmas
+pub mod NeededWords
+pub mod MarkLemmas
+pub mod ChoiceLemmas
+pub mod PruningLemmas
+pub mod RenumberLemmas
