@@ -158,13 +158,3 @@ made_times ts ctx =
     by_bool (are_constant ts)
     (λ h. cond-true (are_constant ts) (steps (times_of ts)) (made_product ts ctx (as_lin one_value)) h ∙ sym (product_steps_are ts ctx one_value h).1)
     (λ h. cond-false (are_constant ts) (steps (times_of ts)) (made_product ts ctx (as_lin one_value)) h)
-
--- ---- remainders of whole numbers
-
-remainder_law : (a p : ℤ) → a *ℤ pos (1 * 1) +ℤ neg_ℤ p *ℤ pos 1 ≡ a -ℤ p
-remainder_law a p = omega (arith, ints)
-
-pub mod_step : (v w : Value) → v.den ≡ 1 → w.den ≡ 1 → v_mod v w ≡ record { num = v.num -ℤ w.num *ℤ whole_div v.num w.num; den = 1 }
-mod_step v w e f =
-    ap₂ (λ (n m : ℕ). record { num = v.num *ℤ pos (m * 1) +ℤ neg_ℤ (w.num *ℤ whole_div v.num w.num) *ℤ pos n; den = n * (m * 1) }) e f
-    ∙ ap (λ (z : ℤ). record { num = z; den = 1 }) (remainder_law v.num (w.num *ℤ whole_div v.num w.num))

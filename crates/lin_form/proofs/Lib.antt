@@ -9,3 +9,5 @@ pub mod Constants
 pub mod Lists
 pub mod Whole
 pub mod Fractions
+pub mod Opposite
+pub mod Rests

@@ -17,8 +17,7 @@ use std::alloc::Global;
 
 /// The value of a constant term, as a form without variables, worked out from left to right in lowest terms; a variable,
 /// an `ite` or a formula in it counts as 0. Refuses where a step on the way has a number past 2^52 (`Number`, only there),
-/// or for memory, which is also the answer to a quotient by 0, to a remainder of fractions, and to a number with a
-/// denominator below 1.
+/// or for memory, which is also the answer to a number with a denominator below 1, as no goal has it.
 #[cycle(constant_form)]
 pub fn constant_form(alloc: Global, term: &Term) -> Result<LinForm, FormFault>
     ensures { Formed (steps (tree_of term.now)) (as_lin (low (tree_of term.now))) result }
@@ -60,7 +59,7 @@ pub fn constant_form(alloc: Global, term: &Term) -> Result<LinForm, FormFault>
 }
 
 /// The form 0.
-fn nothing(alloc: Global) -> LinForm
+pub(crate) fn nothing(alloc: Global) -> LinForm
     ensures { result ≡ as_lin zero_value }
 {
     LinForm::whole(Row::constant(alloc, 0))

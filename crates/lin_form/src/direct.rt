@@ -8,7 +8,7 @@ ghost use Rattle.lin_form.specs.Direct.{direct as direct_lin, direct_sum as sum_
 ghost use Rattle.lin_form.specs.Low.{as_lin};
 ghost use Rattle.lin_form.specs.Outcome.{Formed};
 
-use crate::constant::constant_form;
+use crate::constant::{constant_form, nothing};
 use crate::fault::FormFault;
 use crate::form::LinForm;
 use crate::kinds::is_constant;
@@ -19,9 +19,9 @@ use lin_term::Row;
 use lin_truth::Term;
 use std::alloc::Global;
 
-/// The form of a term without a choice, in a scope. Refuses where a form on the way has a number past 2^52 (`Number`,
-/// only there), or for memory, which is also the answer to an `ite` or a formula. An `abs`, `div` or `mod`, and a divisor,
-/// is what `constant_form` gives.
+/// The form of a term without a choice, in a scope; an `ite` or a formula in it counts as 0. Refuses where a form on the
+/// way has a number past 2^52 (`Number`, only there), or for memory. An `abs`, `div` or `mod`, and a divisor, is what
+/// `constant_form` gives.
 #[cycle(direct_form)]
 pub fn direct_form(alloc: Global, ctx: &[Bound], term: &Term) -> Result<LinForm, FormFault>
     ensures { Formed (made (tree_of term.now) ctx.now) (direct_lin (tree_of term.now) ctx.now) result }
@@ -51,7 +51,7 @@ pub fn direct_form(alloc: Global, ctx: &[Bound], term: &Term) -> Result<LinForm,
         Term::Abs(_) => constant_form(alloc, term),
         Term::Div(_, _) => constant_form(alloc, term),
         Term::Mod(_, _) => constant_form(alloc, term),
-        _ => Err(FormFault::Memory),
+        _ => Ok(nothing(alloc)),
     }
 }
 

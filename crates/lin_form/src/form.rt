@@ -1,9 +1,10 @@
 //! Linear forms over one positive denominator: sums, multiples and products, each in lowest terms.
 
-ghost use Rattle.std.specs.Prelude.{◌≡◌, ◌+◌, ◌*◌, ◌<◌, ◌≤◌, ◌^◌, ℕ, ℤ, pos, negsuc, neg_ℤ, ◌≤ℤ◌, nat_abs, IfOk, ◌∷◌, []};
+ghost use Rattle.std.specs.Prelude.{◌≡◌, ◌+◌, ◌*◌, ◌<◌, ◌≤◌, ◌^◌, ℕ, ℤ, pos, negsuc, neg_ℤ, ◌≤ℤ◌, nat_abs, IfOk, ◌∷◌, [], true};
 ghost use Rattle.lin_term.specs.Form.{AreTerms, cap};
 ghost use Rattle.lin_term.specs.Linear.{plus_terms, times_terms};
 ghost use Rattle.lin_term.specs.Literal.{gcd, gcd_terms, or_one};
+ghost use Rattle.lin_form.specs.Kept.{within, lins_numbers};
 ghost use Rattle.lin_form.specs.Lin.{combination, Lin, reduced, lin_variable, lin_plus, lin_minus, lin_scale, lin_neg, lin_times, lin_over};
 ghost use Rattle.lin_form.specs.Low.{as_lin, lowest};
 ghost use Rattle.lin_form.specs.Outcome.{Formed};
@@ -236,13 +237,26 @@ pub fn minus(alloc: Global, x: &LinForm, y: &LinForm) -> Result<LinForm, FormFau
     combined(alloc, p, x, q, y)
 }
 
-/// The negative form, in lowest terms.
-/// Refuses where one of its numbers is past 2^52 (`Number`, only there), or for memory.
-pub fn negative(alloc: Global, x: &LinForm) -> Result<LinForm, FormFault>
-    ensures { let lin : Lin = lin_neg x.now in
-        Formed (lin ∷ []) lin result }
+/// The form itself; refuses only for memory.
+pub(crate) fn itself(alloc: Global, x: &LinForm) -> Result<LinForm, FormFault>
+    ensures { Formed (x.now ∷ []) x.now result }
 {
-    scaled(alloc, -1, 1, x)
+    let coefs = SmallVec::from_slice(alloc, x.row.coefs())?;
+    Ok(LinForm {
+        row: Row::from_parts(coefs, x.row.constant_part()),
+        den: x.den(),
+    })
+}
+
+/// The negative form, in lowest terms. Its numbers are within 2^52 as those of the form are, so it refuses only for
+/// memory.
+pub fn negative(alloc: Global, x: &LinForm) -> Result<LinForm, FormFault>
+    ensures value { let lin : Lin = lin_neg x.now in
+        Formed (lin ∷ []) lin result }
+    ensures kept { within (lins_numbers (lin_neg x.now ∷ [])) ≡ true }
+{
+    let constant = product(-1, x.row.constant_part());
+    reduced_sum(alloc, x.den() as u128, constant, -1, x.row.coefs(), 0, &[])
 }
 
 /// The product of two forms of which one has no variables, in lowest terms. Where both have variables, only the

@@ -1,6 +1,6 @@
 //! The forms of a variable, of a number, and of a whole number times a variable.
 
-ghost use Rattle.std.specs.Prelude.{◌≡◌, ◌<◌, ◌≤◌, ◌^◌, nat_abs, IfOk, ◌∷◌, []};
+ghost use Rattle.std.specs.Prelude.{◌≡◌, ◌<◌, ◌≤◌, ◌^◌, nat_abs, IfOk, OnOk, ◌∷◌, []};
 ghost use Rattle.lin_term.specs.Form.{cap};
 ghost use Rattle.lin_term.specs.Linear.{put_front};
 ghost use Rattle.lin_truth.specs.Value.{one_value};
@@ -33,7 +33,8 @@ pub fn level_of(ctx: &[Bound], place: u32) -> u32
 
 /// The form of the variable at a level below 2^20; from there on the answer is want of memory. Refuses only so.
 pub fn variable(alloc: Global, level: u32) -> Result<LinForm, FormFault>
-    ensures { Formed (lin_variable level ∷ []) (lin_variable level) result }
+    ensures value { Formed (lin_variable level ∷ []) (lin_variable level) result }
+    ensures low { OnOk result (level < 2 ^ 20) }
 {
     if level >= LEVELS {
         return Err(FormFault::Memory);

@@ -1,6 +1,6 @@
 //! Steps on forms that were worked out before: a fault stays a fault.
 
-ghost use Rattle.std.specs.Prelude.{◌≡◌, ◌+◌, ◌*◌, ◌≤◌, ◌^◌, ℕ, ℤ, nat_abs, List, ◌++◌, ◌∷◌, []};
+ghost use Rattle.std.specs.Prelude.{◌≡◌, ◌+◌, ◌*◌, ◌≤◌, ◌^◌, ℕ, ℤ, pos, ◌*ℤ◌, nat_abs, List, ◌++◌, ◌∷◌, []};
 ghost use Rattle.lin_term.specs.Form.{cap};
 ghost use Rattle.lin_term.specs.Linear.{Value};
 ghost use Rattle.lin_truth.specs.Value.{v_abs, v_div, v_mod, whole_div};
@@ -10,7 +10,7 @@ ghost use Rattle.lin_form.specs.Outcome.{Formed};
 ghost use Rattle.lin_form.specs.Operating.{operation as operation_of, absolute_lin, whole_lin, remainder_lin, quotient_lin, value_of};
 
 use crate::fault::FormFault;
-use crate::form::{LinForm, lowest_value, minus, negative, plus, scaled, times};
+use crate::form::{LinForm, itself, lowest_value, minus, negative, plus, scaled, times};
 use lin_term::product;
 use std::alloc::Global;
 
@@ -44,8 +44,8 @@ fn operate(alloc: Global, op: Operation, x: &LinForm, y: &LinForm) -> Result<Lin
 }
 
 /// What an operation makes of two forms that were worked out before. Where one of them has a fault, so has the result;
-/// else it refuses where one of its numbers is past 2^52 (`Number`, only there), or for memory. A quotient by 0, and a
-/// remainder of forms with a denominator, which no goal has, are answered by want of memory.
+/// else it refuses where one of its numbers is past 2^52 (`Number`, only there), or for memory. A quotient by 0, which no
+/// goal has, is the first form.
 pub fn operated(
     alloc: Global,
     op: Operation,
@@ -83,8 +83,8 @@ pub fn stepped(
 }
 
 /// The quotient of a form and one without variables, in lowest terms; of the second only the constant and the
-/// denominator count. Refuses where a number of the quotient is past 2^52 (`Number`, only there), or for memory, which is
-/// also the answer where the second is 0, as no goal has it.
+/// denominator count. By 0, which no goal has, it is the form itself. Refuses where a number of the quotient is past 2^52
+/// (`Number`, only there), or for memory.
 pub fn over(alloc: Global, x: &LinForm, y: &LinForm) -> Result<LinForm, FormFault>
     ensures { let lin : Lin = lin_over x.now (value_of y.now) in
         Formed (lin ∷ []) lin result }
@@ -96,7 +96,7 @@ pub fn over(alloc: Global, x: &LinForm, y: &LinForm) -> Result<LinForm, FormFaul
     } else if n < 0 {
         scaled(alloc, -e, n.unsigned_abs(), x)
     } else {
-        Err(FormFault::Memory)
+        itself(alloc, x)
     }
 }
 
@@ -119,7 +119,7 @@ pub(crate) fn quotient(
     over(alloc, &x, &y)
 }
 
-/// The quotient of two forms without variables; by 0, which no goal has, the answer is want of memory.
+/// The quotient of two forms without variables; by 0, which no goal has, the first in lowest terms.
 fn quotient_form(alloc: Global, x: &LinForm, y: &LinForm) -> Result<LinForm, FormFault>
     ensures { let lin : Lin = quotient_lin x.now y.now in
         Formed (lin ∷ []) lin result }
@@ -132,7 +132,7 @@ fn quotient_form(alloc: Global, x: &LinForm, y: &LinForm) -> Result<LinForm, For
     } else if n < 0 {
         lowest_value(alloc, -top, bottom)
     } else {
-        Err(FormFault::Memory)
+        lowest_value(alloc, x.constant() as i128, x.den() as u128)
     }
 }
 
@@ -194,17 +194,35 @@ fn whole_form(alloc: Global, x: &LinForm, y: &LinForm) -> Result<LinForm, FormFa
     lowest_value(alloc, quotient as i128, 1)
 }
 
-/// The remainder of two whole forms without variables; a denominator other than 1, which no goal has here, is answered
-/// by want of memory.
+/// n times the whole quotient of a by n, which a remainder is behind.
+fn whole_multiple(a: i64, n: i64) -> i64
+    requires a_kept { nat_abs a ≤ cap }
+    requires n_kept { nat_abs n ≤ cap }
+    ensures value { result ≡ n *ℤ whole_div a n }
+    ensures small { nat_abs result ≤ 2 ^ 53 }
+{
+    let quotient = whole_quotient(a, n);
+    n * quotient
+}
+
+/// The product of a number of two caps at most and a denominator.
+fn over_den(whole: i64, den: u64) -> i128
+    requires whole_small { nat_abs whole ≤ 2 ^ 53 }
+    requires den_kept { den ≤ cap }
+    ensures value { result ≡ whole *ℤ pos den }
+    ensures size { nat_abs result ≤ 2 ^ 105 }
+{
+    whole as i128 * den as i128
+}
+
+/// The remainder of two forms without variables: the first less the second times the whole quotient of the constants.
 fn remainder_form(alloc: Global, x: &LinForm, y: &LinForm) -> Result<LinForm, FormFault>
     ensures { let lin : Lin = remainder_lin x.now y.now in
         Formed (lin ∷ []) lin result }
 {
-    if x.den() != 1 || y.den() != 1 {
-        return Err(FormFault::Memory);
-    }
-    let quotient = whole_quotient(x.constant(), y.constant());
-    let whole = product(y.constant(), quotient);
-    let rest = x.constant() as i128 - whole;
-    lowest_value(alloc, rest, 1)
+    let whole = whole_multiple(x.constant(), y.constant());
+    let left = product(x.constant(), y.den() as i64);
+    let right = over_den(whole, x.den());
+    let den = x.den() as u128 * y.den() as u128;
+    lowest_value(alloc, left - right, den)
 }

@@ -8,7 +8,8 @@ use Rattle.lin_term.specs.Linear.{Form}
 use Rattle.lin_form.specs.declared.FormFault.{FormFault}
 use Rattle.lin_form.specs.declared.FormFault.TheVariants as faults
 use Rattle.lin_form.specs.Lin.{Lin, lin_neg}
-use Rattle.lin_form.specs.Kept.{within}
+use Rattle.lin_form.specs.Kept.{within, lins_numbers}
+use Rattle.lin_form.specs.Outcome.{Formed}
 use Rattle.lin_form.proofs.Keeping.{within_append}
 use Rattle.norm_form.specs.declared.branches.Case.{Case}
 use Rattle.norm_form.specs.declared.literal.Signs.{Signs}
@@ -97,6 +98,13 @@ pub zero_is : (s : Sort) (q : Bool) (l m : Lit) → over2 (either_by q) (capped_
 zero_is s q l m =
     kept_both q (within (atom_numbers s l)) (within (atom_numbers s m)) (signed true s l) (signed true s m)
     ∙ ap (λ (b : Bool). keep b (either_by q (signed true s l) (signed true s m))) (sym (within_append (atom_numbers s l) (atom_numbers s m)))
+
+-- the negative is never past the cap
+pub negative_stops : (x : Lin) (o : Option Normal) (z : FormFault) → within (lins_numbers (lin_neg x ∷ [])) ≡ true → Formed (lin_neg x ∷ []) (lin_neg x) (Err z) → IsBuilt o (Err z)
+negative_stops x o faults.Number k h = let e : true ≡ false = sym k ∙ h in absurd (cc)
+negative_stops x o faults.Memory k h = tt
+negative_stops x o faults.Size k h = h
+negative_stops x o faults.Variables k h = h
 
 pub zero_made : (s : Sort) (q : Bool) (x m : Lin) (f g : Form) (r : Result Built FormFault) → q ≡ true → f ≡ x.form → g ≡ m.form → m ≡ lin_neg x → IsBuilt (over2 (either_by true) (capped_maker.signed true s (AtLeast f)) (capped_maker.signed true s (AtLeast g))) r → IsBuilt (capped_maker.same_number q s x) r
 zero_made s q x m f g r e h k l b =

@@ -17,6 +17,7 @@ pub mod Ascending
 pub mod Numbering
 pub mod Cutting
 pub mod Remaining
+pub mod Choices
 pub mod Plain
 pub mod Shapes
 pub mod Signing

@@ -12,7 +12,7 @@ use Rattle.norm_form.specs.declared.count.Rate.{Rate}
 use Rattle.norm_form.specs.Load.{load, number_load, no_number}
 
 -- the tree of a term, one level
-seen : (w : Written) (k : Term-F Written) → w ≡ roll-Term k → tree_of w ≡ term_step (map-Term Written Term tree_of k)
+pub seen : (w : Written) (k : Term-F Written) → w ≡ roll-Term k → tree_of w ≡ term_step (map-Term Written Term tree_of k)
 seen w k e = ap tree_of e ∙ fold-roll-Term Term term_step k
 
 -- neither a connective, a quantifier nor a comparison: one node

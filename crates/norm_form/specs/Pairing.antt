@@ -1,7 +1,8 @@
 -- The parts of a choice between two numbers.
 use Rattle.std.specs.Prelude.{ℕ, List, Option, true, false}
 use Rattle.lin_term.specs.declared.Sort.{Sort}
-use Rattle.lin_truth.specs.Term.{Term, ite}
+use Rattle.lin_truth.specs.Term.{Term, yes, amount, ite}
+use Rattle.lin_truth.specs.Value.{zero_value}
 use Rattle.lin_form.specs.declared.Bound.{Bound}
 use Rattle.lin_form.specs.Lin.{Lin}
 use Rattle.norm_form.specs.Cap.{capped_maker}
@@ -10,13 +11,15 @@ use Rattle.norm_form.specs.declared.connective.Contraries.{Contraries}
 use Rattle.norm_form.specs.Normal.{Normal}
 use Rattle.norm_form.specs.View.{IsBuilt}
 
+-- of any other term 0
 abbrev pub other_part : Term → Term
 other_part (ite c a b) = b
-other_part t = t
+other_part t = amount zero_value
 
+-- of any other term true
 abbrev pub test_part : Term → Term
 test_part (ite c a b) = c
-test_part t = t
+test_part t = yes
 
 -- x where the test of t holds, else y
 abbrev pub paired_form : Term → Sort → List Bound → Lin → (ℕ → Lin → Option Normal) → ℕ → Lin → Option Normal

@@ -1,6 +1,6 @@
 //! The bounds of a whole quotient: n*q <= t, and t <= n*q + |n| - 1, as SMT-LIB's theory Ints has them.
 
-ghost use Rattle.std.specs.Prelude.{◌≡◌, ◌∷◌, [], ℕ, pos, negsuc, ◌+ℤ◌, nat_abs};
+ghost use Rattle.std.specs.Prelude.{◌≡◌, ◌<◌, ◌^◌, ◌∷◌, [], OnOk, ℕ, pos, negsuc, ◌+ℤ◌, nat_abs};
 ghost use Rattle.lin_form.specs.Lin.{lin_variable, lin_minus};
 ghost use Rattle.lin_form.specs.Low.{as_lin};
 ghost use Rattle.lin_form.specs.Outcome.{Formed};
@@ -30,7 +30,8 @@ pub(crate) struct Bounds {
 
 /// The divisor times the variable at a level.
 fn multiple_of(alloc: Global, by: &LinForm, level: u32) -> Result<LinForm, FormFault>
-    ensures { Formed (lin_variable level ∷ multiple_form by.now.form.constant level ∷ []) (multiple_form by.now.form.constant level) result }
+    ensures value { Formed (lin_variable level ∷ multiple_form by.now.form.constant level ∷ []) (multiple_form by.now.form.constant level) result }
+    ensures low { OnOk result (level < 2 ^ 20) }
 {
     let quotient = match variable(alloc, level) {
         Ok(form) => form,
@@ -66,7 +67,8 @@ fn gap_of(
 
 /// The forms of a division of x, with the quotient at a level.
 fn sides_of(alloc: Global, by: &LinForm, x: &LinForm, level: u32) -> Result<Sides, FormFault>
-    ensures { AreSides by.now.form.constant x.now level result }
+    ensures value { AreSides by.now.form.constant x.now level result }
+    ensures low { OnOk result (level < 2 ^ 20) }
 {
     let multiple = match multiple_of(alloc, by, level) {
         Ok(form) => form,
@@ -91,7 +93,8 @@ pub(crate) fn bounds_of(
     x: &LinForm,
     level: u32,
 ) -> Result<Bounds, FormFault>
-    ensures { AreBounds sort by.now.form.constant x.now level result }
+    ensures value { AreBounds sort by.now.form.constant x.now level result }
+    ensures low { OnOk result (level < 2 ^ 20) }
 {
     let sides = match sides_of(alloc, by, x, level) {
         Ok(sides) => sides,

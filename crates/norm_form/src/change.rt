@@ -1,6 +1,6 @@
 //! What is done with each form of a term's cases.
 
-ghost use Rattle.std.specs.Prelude.{◌≡◌, ◌∷◌, [], ℕ, suc, List, Option, IfOk};
+ghost use Rattle.std.specs.Prelude.{◌≡◌, ◌<◌, ◌^◌, ◌∷◌, [], ℕ, suc, List, Option, IfOk};
 ghost use Rattle.lin_form.specs.Lin.{Lin, lin_neg};
 ghost use Rattle.lin_form.specs.Outcome.{Formed};
 ghost use Rattle.norm_form.specs.Cap.{capped_maker};
@@ -14,7 +14,7 @@ ghost use Rattle.lin_term.specs.declared.Sort.{Sort};
 ghost use Rattle.lin_term.specs.declared.Lit.TheVariants.{AtLeast};
 
 use crate::bounds::bounds_of;
-use crate::branches::{Case, LEVELS, kept_choice, kept_quotient, one, righted};
+use crate::branches::{Case, kept_choice, kept_quotient, one, righted};
 use crate::connective::Contraries;
 use crate::literal::{Signs, both_signs};
 use crate::normal::LevelForm;
@@ -119,8 +119,7 @@ fn absolute_cases(
     with_choice(level, x, minus, signs)
 }
 
-/// A form under a quotient between bounds, in reversed order. Past 2^20 levels, which no goal has, the answer is want of
-/// memory.
+/// A form under a quotient between bounds, in reversed order.
 fn in_bounds(
     alloc: Global,
     level: u32,
@@ -128,11 +127,9 @@ fn in_bounds(
     high: LevelForm,
     form: LinForm,
 ) -> Result<Items<Case>, Memory>
+    requires { level < 2 ^ 20 }
     ensures { IfOk result (λ all. (k : ℕ → Lin → Option NormalTree) (rs : List (Option NormalTree)) → run_back all k rs ≡ option_over (between (shape_of low) (shape_of high)) (k (suc level) form) ∷ rs) }
 {
-    if level >= LEVELS {
-        return Err(Memory);
-    }
     let mut all = one(alloc, level + 1, form)?;
     all.push(Case::Quotient(low, high))?;
     Ok(all)

@@ -44,14 +44,14 @@ pub(crate) fn literal(
     }
 }
 
-/// A form is 0: it and its negative are at least 0. It is not: one of the two is above 0. The negative of a form that was
-/// kept is kept, so the answer there is never a number past the cap.
+/// A form is 0: it and its negative are at least 0. It is not: one of the two is above 0. The negative refuses only for
+/// memory.
 fn zero(alloc: Global, sort: Sort, truth: bool, x: LinForm) -> Result<LevelForm, FormFault>
     ensures { IsBuilt (claimed_form claims.Zero sort truth x) result }
 {
     let minus = match negative(alloc, &x) {
         Ok(minus) => minus,
-        Err(_) => return Err(FormFault::Memory),
+        Err(fault) => return Err(fault),
     };
     if truth {
         let a = literal(alloc, sort, true, Lit::AtLeast(x.into_row()));
@@ -128,7 +128,8 @@ fn with_formula(
     }
 }
 
-/// The choice between the last two formulas; where there are fewer, which no cases have, the answer is want of memory.
+/// The choice between the last two formulas; where there are fewer, which no cases have, one is missing as behind a number
+/// past the cap.
 fn with_choice(
     alloc: Global,
     test: LevelForm,
@@ -144,13 +145,14 @@ fn with_choice(
                 stack.push(choice(alloc, test, untest, a, b)?)?;
                 Ok(stack)
             }
-            None => Err(FormFault::Memory),
+            None => Err(FormFault::Number),
         },
-        None => Err(FormFault::Memory),
+        None => Err(FormFault::Number),
     }
 }
 
-/// The last formula under a quotient; where there is none, which no cases have, the answer is want of memory.
+/// The last formula under a quotient; where there is none, which no cases have, it is missing as behind a number past the
+/// cap.
 fn with_quotient(
     alloc: Global,
     low: LevelForm,
@@ -165,7 +167,7 @@ fn with_quotient(
             stack.push(between(alloc, low, high, inner)?)?;
             Ok(stack)
         }
-        None => Err(FormFault::Memory),
+        None => Err(FormFault::Number),
     }
 }
 
@@ -207,7 +209,7 @@ fn made(
     }
     match stack.pop() {
         Some(formula) => Ok(formula),
-        None => Err(FormFault::Memory),
+        None => Err(FormFault::Number),
     }
 }
 

@@ -19,7 +19,8 @@ use crate::branches::{
 use crate::change::{Change, Division, Step, divided_cases, joined_back, pair_cases, turned};
 use crate::connective::Contraries;
 use crate::formula::both_ways;
-use lin_form::{Bound, FormFault, LinForm, constant_form, direct_form, is_direct};
+use crate::normal::closed;
+use lin_form::{Bound, FormFault, LinForm, constant_form, direct_form, is_direct, lowest_value};
 use lin_term::{Row, Sort};
 use lin_truth::Term;
 use sqlite_items::Items;
@@ -212,7 +213,7 @@ fn product(
     Ok(all)
 }
 
-/// The second number of a choice.
+/// The second number of a choice; of any other term 0.
 #[cycle(walk)]
 fn other(
     alloc: Global,
@@ -225,11 +226,11 @@ fn other(
 {
     match term {
         Term::Ite(_, _, b) => number(alloc, sort, ctx, b.get(), level),
-        _ => Err(FormFault::Memory),
+        _ => leaf_cases(alloc, level, lowest_value(alloc, 0, 1)),
     }
 }
 
-/// The test of a choice.
+/// The test of a choice; of any other term true.
 #[cycle(walk)]
 fn test(alloc: Global, sort: Sort, ctx: &[Bound], term: &Term, level: u32) -> Contraries
     ensures yes { IsBuilt (gnorm capped_maker (test_part (tree_of term.now)) sort true ctx.now level) result.yes }
@@ -238,8 +239,8 @@ fn test(alloc: Global, sort: Sort, ctx: &[Bound], term: &Term, level: u32) -> Co
     match term {
         Term::Ite(c, _, _) => both_ways(alloc, sort, ctx, c.get(), level),
         _ => Contraries {
-            yes: Err(FormFault::Memory),
-            no: Err(FormFault::Memory),
+            yes: Ok(closed(alloc, true)),
+            no: Ok(closed(alloc, false)),
         },
     }
 }

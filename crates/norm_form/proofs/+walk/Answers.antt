@@ -1,12 +1,13 @@
 use Rattle.std.proofs.lemmas.List.{take_more}
 use Rattle.std.proofs.Common.{take, ◌+◌, ◌∙◌, ap, sym, subst, arith, drop, length, List, ℕ, refl, [], ◌∷◌, ◌++◌}
-use Rattle.std.specs.Prelude.{true, false, Option, not, map}
+use Rattle.std.specs.Prelude.{true, false, Option, Some, Ok, not, map}
 use Rattle.lin_truth.specs.declared.Term.{Term as Written}
 use Rattle.lin_truth.specs.Term.{Term, Terms, term_and}
 use Rattle.lin_truth.specs.Truth.{is_formula}
+use Rattle.lin_truth.specs.Value.{zero_value}
 use Rattle.lin_truth.specs.View.{tree_of, trees_of}
 use Rattle.lin_form.specs.declared.Bound.{Bound}
-use Rattle.lin_form.specs.Lin.{lin_plus, lin_times}
+use Rattle.lin_form.specs.Lin.{lin_constant, lin_plus, lin_times}
 use Rattle.lin_form.specs.Direct.{direct, made}
 use Rattle.lin_form.specs.Low.{as_lin, low, steps}
 use Rattle.lin_form.specs.Scope.{bound_sort}
@@ -20,6 +21,7 @@ use Rattle.norm_form.specs.Normal.{Normal}
 use Rattle.norm_form.specs.Pairing.{other_part, test_part, paired_form}
 use Rattle.norm_form.specs.View.{IsBuilt}
 use Rattle.norm_form.specs.Walk.{all_bound, wrapped}
+use Rattle.norm_form.proofs.Choices.{other_else, test_else}
 use Rattle.norm_form.proofs.Claiming.{built_same}
 use Rattle.norm_form.proofs.Running.{GoesOn, goes_form, goes_choice, goes_quotient, goes_stop, turned_cases, cases_stop, both_back_cases, both_back_stop, both_more, both_stop, both_end, turned_form}
 use Rattle.norm_form.proofs.Walking.{SumStands, ProductStands, PartsStand, Stepping, sum_more, sum_stops, product_more, product_stops, parts_more, parts_stop, parts_end, direct_cases, negative_cases, absolute_cases, minus_cases, quotient_cases, div_cases, mod_cases, plus_cases, times_cases, ite_cases, equal_number, equal_truth}
@@ -335,3 +337,16 @@ number::pair_of-returns t c = λ u.
 pub number::pair_case-returns-in-Form : goal.number::pair_case-returns-in-Form
 number::pair_case-returns-in-Form t c = λ u.
     turned_form (paired_form (tree_of c.args.term.now) c.args.sort c.args.ctx.now c.args.x.now) c.args.case.now c.in-Form.level c.in-Form.y c.pair_of.result c.in-Form.is (c.pair_of.ensures u)
+
+pub number::other-returns-in_default : goal.number::other-returns-in_default
+number::other-returns-in_default t c =
+    subst (λ (u : Term). AreCases (λ k. glin capped_maker u c.args.sort c.args.ctx.now c.args.level k) c.leaf_cases.result) (sym (other_else c.args.term.now c.in_default.not-Ite))
+    (c.leaf_cases.ensures (lin_constant zero_value ∷ []) (lin_constant zero_value) c.lowest_value.ensures)
+
+pub number::test-returns-in_default-clause-yes : goal.number::test-returns-in_default-clause-yes
+number::test-returns-in_default-clause-yes t c =
+    subst (λ (u : Term). IsBuilt (gnorm capped_maker u c.args.sort true c.args.ctx.now c.args.level) (Ok c.closed.result)) (sym (test_else c.args.term.now c.in_default.not-Ite)) (ap Some (sym c.closed.ensures))
+
+pub number::test-returns-in_default-clause-no : goal.number::test-returns-in_default-clause-no
+number::test-returns-in_default-clause-no t c =
+    subst (λ (u : Term). IsBuilt (gnorm capped_maker u c.args.sort false c.args.ctx.now c.args.level) (Ok c.closed-in_default.result)) (sym (test_else c.args.term.now c.in_default.not-Ite)) (ap Some (sym c.closed-in_default.ensures))

@@ -22,7 +22,7 @@ moved xs ys x y r e f h = subst (λ (z : Lin). Formed ys z r) f (subst (λ (zs :
 pub direct_form-returns-in-Var : goal.direct_form-returns-in-Var
 direct_form-returns-in-Var t c =
     subst (λ (u : Term). Formed (made u c.args.ctx.now) (direct u c.args.ctx.now) c.variable.result) (sym (tree-Var c.in-Var.i c.args.term.now c.in-Var.is))
-    (subst (λ (n : ℕ). Formed (lin_variable n ∷ []) (lin_variable n) c.variable.result) c.level_of.ensures c.variable.ensures)
+    (subst (λ (n : ℕ). Formed (lin_variable n ∷ []) (lin_variable n) c.variable.result) c.level_of.ensures c.variable.ensures.value)
 
 pub direct_form-returns-in-Negative : goal.direct_form-returns-in-Negative
 direct_form-returns-in-Negative t c =

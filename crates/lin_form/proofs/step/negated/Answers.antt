@@ -9,4 +9,4 @@ pub returns-in-Err : goal.returns-in-Err
 returns-in-Err c = λ xs v h. formed_stop xs (lin_neg v ∷ []) v (lin_neg v) c.in-Err.fault (subst (λ r. Formed xs v r) c.in-Err.is h)
 
 pub returns : goal.returns
-returns c = λ xs v h. step_one lin_neg xs v c.in-Ok.x c.negative.result (subst (λ r. Formed xs v r) c.in-Ok.is h) c.negative.ensures
+returns c = λ xs v h. step_one lin_neg xs v c.in-Ok.x c.negative.result (subst (λ r. Formed xs v r) c.in-Ok.is h) c.negative.ensures.value

@@ -8,7 +8,7 @@ use Rattle.norm_form.proofs.change.changed_cases.Goals as goal
 pub returns-in-Negative : goal.returns-in-Negative
 returns-in-Negative c =
     subst (λ (z : Change). AreBack (λ k. changed z c.args.sort k c.args.level c.args.x) c.single.result) (sym c.in-Negative.is)
-    (c.single.ensures (lin_neg c.args.x) c.negative.ensures)
+    (c.single.ensures (lin_neg c.args.x) c.negative.ensures.value)
 
 pub returns-in-Over : goal.returns-in-Over
 returns-in-Over c =

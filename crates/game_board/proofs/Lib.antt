@@ -1,0 +1,13 @@
+pub mod Keeping
+pub mod HalfStates
+pub mod HalfLemmas
+pub mod Fitting
+pub mod Closing
+pub mod Asking
+pub mod Asked
+pub mod Working
+pub mod Read
+pub mod Played
+pub mod Verdicts
+pub mod Stepping
+pub mod Events

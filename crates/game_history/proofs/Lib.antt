@@ -1,0 +1,10 @@
+pub mod Lists
+pub mod Including
+pub mod Versions
+pub mod Blocked
+pub mod Longest
+pub mod NotedNewest
+pub mod Pushed
+pub mod NewPaths
+pub mod Chains
+pub mod OfSystem

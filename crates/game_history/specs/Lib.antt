@@ -1,0 +1,4 @@
+pub mod History
+pub mod Legal
+pub mod Work
+pub mod Literals

@@ -1,0 +1,9 @@
+pub mod Nodes
+pub mod Growing
+pub mod Cutting
+pub mod Showing
+pub mod Later
+pub mod Lent
+pub mod Compare
+pub mod Haves
+pub mod Marking
