@@ -1,0 +1,14 @@
+pub mod Leading
+pub mod Rules
+pub mod Ways
+pub mod Completing
+pub mod Stopping
+pub mod Reaching
+pub mod Parting
+pub mod Choosing
+pub mod Ending
+pub mod Splitting
+pub mod Root
+pub mod Passing
+pub mod Stacking
+pub mod Answering

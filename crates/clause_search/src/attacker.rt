@@ -1,0 +1,60 @@
+//! The attacker of the program: ways first, each answer certified, then the plain search.
+
+ghost use Rattle.std.specs.Prelude.{IfOk, IfSome};
+ghost use Rattle.clause_search.specs.Attacks.{IsAttack};
+
+use crate::attack::{Attack, Attacker};
+use crate::plain::attack_plainly;
+use dom_core::Domain;
+use lin_term::{Memory, Short};
+use lose_system::System;
+use proof_rules::check;
+use search_ways::{Candidate, lazy_way};
+use std::alloc::Global;
+
+/// How many steps a way may take.
+const FUEL: u64 = 4000;
+
+/// A candidate, where it stands the test.
+fn certified<D: Domain>(
+    alloc: Global,
+    system: &System<'_, D>,
+    candidate: Candidate,
+) -> Result<Option<Attack<D>>, Memory>
+    ensures { IfOk result (λ o. IfSome o (IsAttack D.SORT system.now)) }
+{
+    match candidate {
+        Candidate::Point(point) => {
+            if system.is_solved_by(alloc, &point)? {
+                Ok(Some(Attack::Point(point)))
+            } else {
+                Ok(None)
+            }
+        }
+        Candidate::Steps(lines) => match check(alloc, system, lines.as_slice()) {
+            Ok(()) => Ok(Some(Attack::Refuted(lines))),
+            Err(Short::Memory) => Err(Memory),
+            Err(Short::Fault(_)) => Ok(None),
+        },
+    }
+}
+
+/// The program's attacker: a way whose answers are tested, and where it gives up the plain search.
+#[derive(Clone, Copy, Debug, Drop)]
+pub struct PlainAttacker;
+
+impl<D: Domain> Attacker<D> for PlainAttacker {
+    fn attack(
+        &self,
+        alloc: Global,
+        system: &System<'_, D>,
+        order: u64,
+    ) -> Result<Attack<D>, Memory> {
+        if let Ok(candidate) = lazy_way(alloc, system, order, FUEL) {
+            if let Some(attack) = certified(alloc, system, candidate)? {
+                return Ok(attack);
+            }
+        }
+        attack_plainly(alloc, system)
+    }
+}
