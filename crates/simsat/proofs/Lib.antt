@@ -1,0 +1,9 @@
+pub mod Storage
+pub mod Published
+pub mod Verdicts
+pub mod Fitting
+pub mod Outcomes
+pub mod Accepting
+pub mod Planned
+pub mod Finished
+pub mod Telling

@@ -1,0 +1,5 @@
+pub mod Texts
+pub mod Journal
+pub mod Generated
+pub mod Pieces
+pub mod Tally

@@ -1,0 +1,4 @@
+pub mod Shown
+pub mod Outcome
+pub mod Turn
+pub mod Noting

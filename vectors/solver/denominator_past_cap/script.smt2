@@ -1,0 +1,6 @@
+(set-logic LRA)
+(declare-const x Real)
+(declare-const y Real)
+(assert (= (- (* 4503599627370495 x) (* 4503599627370494 y)) 1))
+(assert (= (- (* 4503599627370493 y) (* 4503599627370491 x)) 1))
+(check-sat)

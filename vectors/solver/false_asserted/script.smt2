@@ -1,0 +1,3 @@
+(set-logic LRA)
+(assert false)
+(check-sat)

@@ -1,0 +1,3 @@
+(set-logic LIA)
+(assert (forall ((x Int)) (exists ((y Int)) (or (= (* 2 y) x) (= (* 2 y) (+ x 1))))))
+(check-sat)

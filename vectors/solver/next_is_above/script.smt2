@@ -1,0 +1,3 @@
+(set-logic LIA)
+(assert (forall ((x Int)) (exists ((y Int)) (forall ((z Int)) (or (<= z y) (> z x))))))
+(check-sat)

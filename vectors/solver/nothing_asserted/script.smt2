@@ -1,0 +1,2 @@
+(set-logic LRA)
+(check-sat)

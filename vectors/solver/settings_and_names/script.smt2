@@ -1,0 +1,13 @@
+(set-info :smt-lib-version 2.6)
+(set-logic LIA)
+(set-info :source |Two lines
+of text|)
+(set-info :status sat)
+(declare-fun |a b| () Int)
+(declare-const on Bool)
+(define-fun double ((n Int)) Int (* 2 n))
+(assert (! (let ((u 1) (v (double |a b|))) (let ((u (+ u 1))) (= v (* 2 u)))) :named first))
+(assert (=> on (forall ((z Int)) (exists ((w Int)) (and (<= w z) (distinct w z))))))
+(assert on)
+(check-sat)
+(exit)
