@@ -8,14 +8,16 @@ use Rattle.lose_system.specs.Written.{WrittenSystem, system_of}
 use Rattle.cube_rules.specs.declared.Step.{Step}
 use Rattle.proof_rules.specs.Rules.{Refutes}
 use Rattle.proof_rules.specs.Writable.{IsWritable}
+use Rattle.proof_rules.specs.Idle.{HasNoIdle}
 use Rattle.clause_search.specs.declared.attack.Attack.{Attack}
 use Rattle.clause_search.specs.declared.attack.Attack.TheVariants.{Point, Refuted, Wide}
 use Rattle.clause_search.specs.Branches.{EndsWide}
 
--- lines that refute, and that a file can hold
+-- lines that refute, and that a file can hold; none of them is idle
 pub record IsRefutation (s : Sort) (w : WrittenSystem) (steps : List Step) : Type 0 where
   pub refutes : Refutes s (problem_of w.problem) (skeleton_of w.tree) steps
   pub writable : IsWritable steps
+  pub idle : HasNoIdle s (problem_of w.problem) (skeleton_of w.tree) steps
 
 -- a point that solves the system, lines that refute it, or a wide cube where no branch is solved within the cap
 abbrev pub IsAttack : {D : Type 0} → Sort → WrittenSystem → Attack D → Type 0

@@ -16,7 +16,7 @@ use std::alloc::Global;
 pub enum Attack<D: Domain> {
     /// A point that solves the system.
     Point(Point),
-    /// Lines that refute the system; a file can hold them.
+    /// Lines that refute the system; a file can hold them, and none of them is idle.
     Refuted(Items<Step>),
     /// A wide cube of literals of a branch. Each branch has no solution, or has a wide cube among its literals.
     Wide(WideCube<D>),

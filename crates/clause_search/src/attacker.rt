@@ -5,6 +5,8 @@ ghost use Rattle.clause_search.specs.Attacks.{IsAttack};
 
 use crate::attack::{Attack, Attacker};
 use crate::plain::attack_plainly;
+use crate::refuted::refuted;
+use cube_rules::Step;
 use dom_core::Domain;
 use lin_term::{Memory, Short};
 use lose_system::System;
@@ -14,6 +16,21 @@ use std::alloc::Global;
 
 /// How many steps a way may take.
 const FUEL: u64 = 4000;
+
+/// What is needed of the steps, where `check` accepts them.
+fn tested<D: Domain>(
+    alloc: Global,
+    system: &System<'_, D>,
+    steps: &[Step],
+) -> Result<Option<Attack<D>>, Memory>
+    ensures { IfOk result (λ o. IfSome o (IsAttack D.SORT system.now)) }
+{
+    match check(alloc, system, steps) {
+        Ok(()) => Ok(Some(refuted(alloc, system, steps)?)),
+        Err(Short::Memory) => Err(Memory),
+        Err(Short::Fault(_)) => Ok(None),
+    }
+}
 
 /// A candidate, where it stands the test.
 fn certified<D: Domain>(
@@ -31,11 +48,7 @@ fn certified<D: Domain>(
                 Ok(None)
             }
         }
-        Candidate::Steps(lines) => match check(alloc, system, lines.as_slice()) {
-            Ok(()) => Ok(Some(Attack::Refuted(lines))),
-            Err(Short::Memory) => Err(Memory),
-            Err(Short::Fault(_)) => Ok(None),
-        },
+        Candidate::Steps(lines) => tested(alloc, system, lines.as_slice()),
     }
 }
 

@@ -9,6 +9,7 @@ mod expand;
 mod found;
 mod goal;
 mod plain;
+mod refuted;
 mod split;
 mod way;
 

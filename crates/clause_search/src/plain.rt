@@ -11,6 +11,7 @@ use crate::eliminate::{early, whole};
 use crate::expand::expand;
 use crate::found::Found;
 use crate::goal::Goal;
+use crate::refuted::refuted;
 use crate::split::{Split, State, advance, begin, take};
 use cube_rules::Step;
 use dom_core::{Domain, Matrix};
@@ -100,7 +101,7 @@ pub fn attack_plainly<D: Domain>(alloc: Global, system: &System<'_, D>) -> Resul
             Ok(Attack::Wide(cube))
         }
         Found::Refuted => match check(alloc, system, lines.as_slice()) {
-            Ok(()) => Ok(Attack::Refuted(lines)),
+            Ok(()) => refuted(alloc, system, lines.as_slice()),
             Err(Short::Memory) => Err(Memory),
             Err(Short::Fault(_)) => unreachable!(),
         },

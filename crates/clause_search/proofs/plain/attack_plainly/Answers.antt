@@ -1,6 +1,6 @@
 use Rattle.std.specs.Prelude.{ℤ, ⊤, List}
 use Rattle.cube_elim.specs.Determined.{WideAt}
-use Rattle.std.proofs.Common.{sym, subst}
+use Rattle.std.proofs.Common.{◌∙◌, sym, subst}
 use Rattle.dom_core.specs.Problem.{problem_of}
 use Rattle.game_tree.specs.View.{skeleton_of}
 use Rattle.cube_rules.specs.declared.Step.{Step}
@@ -16,11 +16,12 @@ returns-in-Point g c = attack_point g.D.Domain.SORT c.args.system.now c.new-line
 pub returns-in-Wide : goal.returns-in-Wide
 returns-in-Wide g c = attack_wide g.D.Domain.SORT c.args.system.now c.new-lines.result c.search.new.lines c.in_ok-point.field-0 c.in-Wide.cube c.in-Wide.is (subst (λ (z : ℤ). WideAt g.D.Domain.SORT c.in-Wide.cube.lits z) c.number-wide.ensures.value c.number-wide.ensures.wide) c.in_ok-point.ensures
 
-pub returns-in-Ok : goal.returns-in-Ok
-returns-in-Ok g c = record {
-  refutes = subst (λ (ls : List Step). Refutes g.D.Domain.SORT (problem_of c.args.system.now.problem) (skeleton_of c.args.system.now.tree) ls) c.as_slice.ensures c.in-Ok.ensures.judged;
-  writable = subst (λ (ls : List Step). IsWritable ls) c.as_slice.ensures c.in-Ok.ensures.writable;
-}
+pub refuted-requires-clause-refutes : goal.refuted-requires-clause-refutes
+refuted-requires-clause-refutes g c =
+    subst (λ (ls : List Step). Refutes g.D.Domain.SORT (problem_of c.args.system.now.problem) (skeleton_of c.args.system.now.tree) ls) (c.as_slice.ensures ∙ sym c.as_slice-in-Ok.ensures) c.in-Ok.ensures.judged
+
+pub refuted-requires-clause-writable : goal.refuted-requires-clause-writable
+refuted-requires-clause-writable g c = subst (λ (ls : List Step). IsWritable ls) (c.as_slice.ensures ∙ sym c.as_slice-in-Ok.ensures) c.in-Ok.ensures.writable
 
 pub unreachable-requires : goal.unreachable-requires
 unreachable-requires g c =

@@ -1,0 +1,12 @@
+pub mod Tallies
+pub mod Places
+pub mod Kept
+pub mod Running
+pub mod Walked
+pub mod Ranks
+pub mod Thinned
+pub mod Closed
+pub mod Idling
+pub mod Needed
+pub mod Writes
+pub mod Pruned

@@ -1,0 +1,4 @@
+pub mod Pruned
+pub mod Counting
+pub mod Cutting
+pub mod Writing
