@@ -8,6 +8,7 @@ use cube_rules::Step;
 use dom_core::Domain;
 use lin_term::{Memory, Point};
 use lose_system::System;
+use search_attack::Values;
 use sqlite_items::Items;
 use std::alloc::Global;
 
@@ -27,5 +28,15 @@ pub trait Attacker<D: Domain> {
     /// A point that solves the system, lines that refute it, or a wide cube of it where no branch is solved within the cap.
     /// `order` changes which branches are tried first, and nothing else. It refuses only for memory.
     fn attack(&self, alloc: Global, system: &System<'_, D>, order: u64) -> Result<Attack<D>, Memory>
+        ensures { IfOk result (IsAttack D.SORT system.now) };
+
+    /// The same. The search may begin at the values kept, and a point that it finds may take their place.
+    fn attack_from(
+        &self,
+        alloc: Global,
+        system: &System<'_, D>,
+        order: u64,
+        values: &mut Values,
+    ) -> Result<Attack<D>, Memory>
         ensures { IfOk result (IsAttack D.SORT system.now) };
 }

@@ -30,7 +30,8 @@ use Rattle.team_work.specs.declared.outcome.Verdict.{Verdict}
 use Rattle.team_work.specs.declared.outcome.Verdict.TheVariants as verdict
 use Rattle.team_work.specs.Noting.{FindsNote, verdict_of}
 use Rattle.team_work.specs.Outcome.{IsWonBy, StopsWide, SaysWhy, Says, IsOutcome, IsRight}
-use Rattle.team_work.specs.Turn.{HasDual, IsGoing, IsWonOn}
+use Rattle.game_board.specs.Replies.{IsUndecided}
+use Rattle.team_work.specs.Turn.{HasDual, IsWonOn, IsNewestShown}
 use Rattle.team_work.proofs.Looking.{side_problem}
 
 -- ---- a verdict
@@ -83,13 +84,13 @@ won_ends {D} s b side w B J v e j l f h = record {
 -- ---- no verdict
 
 -- the note of a side that is not beaten
-pub blocked_says : {D : Type 0} → (s : Sort) (b : WrittenBoard D) (side : Side) (v : ℕ) (n : WideNote D) (B : ℕ) → IsGoing s b → ¬ SomeHasWork (state_of s b) → IsUnbeaten side (state_of s b) → v ≡ newest_number (of_side side (state_of s b)) → (side ≡ Forall → ¬ IsUnbeaten Exists (state_of s b)) → FindsNote (entries_of b.history) side v (Some n) → SaysWhy s (problem_of b.problem) B (entries_of b.history) (why.Coefficient n)
-blocked_says {D} s b side v n B g k u e x f =
+pub blocked_says : {D : Type 0} → (s : Sort) (b : WrittenBoard D) (side : Side) (v : ℕ) (n : WideNote D) (B : ℕ) → IsUndecided s b → ¬ SomeHasWork (state_of s b) → ((y : Side) → IsNewestShown s b y) → IsUnbeaten side (state_of s b) → v ≡ newest_number (of_side side (state_of s b)) → (side ≡ Forall → ¬ IsUnbeaten Exists (state_of s b)) → FindsNote (entries_of b.history) side v (Some n) → SaysWhy s (problem_of b.problem) B (entries_of b.history) (why.Coefficient n)
+blocked_says {D} s b side v n B g k w u e x f =
     subst (λ (y : Side). StopsWide s (problem_of b.problem) (entries_of b.history) y n.version (wideness_of n.why)) (sym f.0) (record {
-      open_game = g.open_game;
+      open_game = g;
       no_work = k;
-      each_noted = λ y q. unbeaten_noted s (problem_of b.problem) (entries_of b.history) y g.open_game k q;
-      each_shown = λ y q z m. g.shown y (newest_number (of_side y (state_of s b))) z m;
+      each_noted = λ y q. unbeaten_noted s (problem_of b.problem) (entries_of b.history) y g k q;
+      each_shown = w;
       unbeaten = u;
       newest = f.1 ∙ e;
       note = subst (λ (m : ℕ). IsAmong (noted side m (wideness_of n.why)) (entries_of b.history)) e f.2;
@@ -97,9 +98,9 @@ blocked_says {D} s b side v n B g k u e x f =
     })
 
 -- there is such a note
-pub blocked_finds : {D : Type 0} → (s : Sort) (b : WrittenBoard D) (side : Side) (v : ℕ) → IsGoing s b → ¬ SomeHasWork (state_of s b) → IsUnbeaten side (state_of s b) → v ≡ newest_number (of_side side (state_of s b)) → FindsNote {D = D} (entries_of b.history) side v None → ⊥
+pub blocked_finds : {D : Type 0} → (s : Sort) (b : WrittenBoard D) (side : Side) (v : ℕ) → IsUndecided s b → ¬ SomeHasWork (state_of s b) → IsUnbeaten side (state_of s b) → v ≡ newest_number (of_side side (state_of s b)) → FindsNote {D = D} (entries_of b.history) side v None → ⊥
 blocked_finds {D} s b side v g k u e f =
-    let n = unbeaten_noted s (problem_of b.problem) (entries_of b.history) side g.open_game k u in
+    let n = unbeaten_noted s (problem_of b.problem) (entries_of b.history) side g k u in
     f n.why (subst (λ (m : ℕ). IsAmong (noted side m n.why) (entries_of b.history)) (sym e) n.note)
 
 -- ---- a verdict is right

@@ -6,3 +6,4 @@ pub mod Looking
 pub mod Ended
 pub mod Noted
 pub mod Playing
+pub mod Rounds

@@ -56,7 +56,7 @@ counter_problem {D} s b Forall Q h e = problem_is Q b.problem (e ∙ h.inverse)
 
 -- ---- notes
 
-shown_for : {D : Type 0} → (s : Sort) (b : WrittenBoard D) (side : Side) (S : WrittenSkeleton) (y : Wideness) → HasDual s b → IsShownOf s (problem_on side b) S y → ShownFor s (problem_of b.problem) side y (skeleton_of S.tree)
+pub shown_for : {D : Type 0} → (s : Sort) (b : WrittenBoard D) (side : Side) (S : WrittenSkeleton) (y : Wideness) → HasDual s b → IsShownOf s (problem_on side b) S y → ShownFor s (problem_of b.problem) side y (skeleton_of S.tree)
 shown_for {D} s b side S (cube c z) d h =
     subst (λ (P : Problem). EachIs (IsOfSystem (system s P (skeleton_of S.tree))) c × WideAt s c z × EachStops s (system s P (skeleton_of S.tree))) (side_problem s b side d)
     (cube_of_system (system s (problem_of (problem_on side b)) (skeleton_of S.tree)) c h.0, h.1, h.2)

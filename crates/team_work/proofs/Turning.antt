@@ -14,22 +14,23 @@ use Rattle.term_select.specs.Counter.{WrittenCounter}
 use Rattle.proof_rules.specs.Won.{WonGame}
 use Rattle.game_history.specs.History.{Wideness, cube, choice, Entry, noted, SideState, State, of_side, version, newest_number, spend, outgrow, end_game}
 use Rattle.game_history.specs.Legal.{OfVersion}
-use Rattle.game_history.specs.Work.{HasWork, SomeHasWork}
+use Rattle.game_history.specs.Work.{HasWork, SomeHasWork, IsBlocked}
 use Rattle.game_board.specs.declared.Entry.{Entry as Written}
 use Rattle.game_board.specs.declared.Entry.TheVariants as entry
 use Rattle.game_board.specs.declared.Published.{Published}
 use Rattle.game_board.specs.declared.Published.TheVariants as published
 use Rattle.game_board.specs.declared.Finished.{Finished}
 use Rattle.game_board.specs.declared.Finished.TheVariants as finished
+use Rattle.game_board.specs.declared.Job.TheVariants as job
 use Rattle.game_board.specs.declared.Noted.{Noted}
 use Rattle.game_board.specs.declared.Noted.TheVariants as answer
 use Rattle.game_board.specs.declared.WideNote.{WideNote}
 use Rattle.game_board.specs.Entries.{wideness_of, entry_of, entries_of}
 use Rattle.game_board.specs.Board.{WrittenBoard, problem_on, state_of, with_entry, with_verdict}
-use Rattle.game_board.specs.Replies.{IsUndecided, HasVerdict, AttacksVersion, WinsVersion, IsAttackBy, IsOnVersion, BelongsTo, Publishes, Finishes, Notes}
+use Rattle.game_board.specs.Replies.{IsUndecided, HasVerdict, AttacksVersion, WinsVersion, IsAttackBy, IsJob, IsOnVersion, BelongsTo, Publishes, Finishes, Notes}
 use Rattle.game_board.proofs.Keeping.{entries_push, state_push}
 use Rattle.game_board.proofs.Working.{back, stale_no_work, noted_no_work}
-use Rattle.team_work.specs.declared.stop.Stop.TheVariants as stop
+use Rattle.team_work.specs.declared.closing.Closing.TheVariants as closing
 use Rattle.team_work.specs.Shown.{ShownFor, Shown}
 use Rattle.team_work.specs.Turn.{IsGoing, IsSameGame, IsWonOn, Stops, Turns}
 use Rattle.team_work.proofs.States.{among_end, added_flags, held_flags, noted_flags, going_more, length_more, same_game}
@@ -61,9 +62,9 @@ once : {D : Type 0} → (b c : WrittenBoard D) (e : Written D) (t : Bool) → t 
 once {D} b c e true f h = absurd (cc)
 once {D} b c e false f h = h
 
-spent_early : {D : Type 0} → (s : Sort) (b c : WrittenBoard D) (k : WrittenCounter) (v : ℕ) → IsGoing s b → HasWork k.side (state_of s b) → c ≡ with_entry b (entry.Spent k.side v k.paths) → Stops s c stop.Spent
+spent_early : {D : Type 0} → (s : Sort) (b c : WrittenBoard D) (k : WrittenCounter) (v : ℕ) → IsGoing s b → HasWork k.side (state_of s b) → c ≡ with_entry b (entry.Spent k.side v k.paths) → Stops s c closing.Spent
 spent_early {D} s b c k v g w h =
-    subst (λ (x : WrittenBoard D). Stops s x stop.Spent) (sym h) (
+    subst (λ (x : WrittenBoard D). Stops s x closing.Spent) (sym h) (
       record {
         open_game = ap (λ (st : State). st.is_over) (state_push s b e) ∙ g.open_game;
         work = subst SomeHasWork (sym (state_push s b e)) (work_spent k.side (state_of s b) w);
@@ -74,9 +75,9 @@ spent_early {D} s b c k v g w h =
     e : Written D
     e = entry.Spent k.side v k.paths
 
-large_early : {D : Type 0} → (s : Sort) (b c : WrittenBoard D) (k : WrittenCounter) (v n : ℕ) → IsGoing s b → HasWork k.side (state_of s b) → c ≡ with_entry b (entry.TooLarge k.side v k.paths n) → Stops s c (stop.TooLarge n)
+large_early : {D : Type 0} → (s : Sort) (b c : WrittenBoard D) (k : WrittenCounter) (v n : ℕ) → IsGoing s b → HasWork k.side (state_of s b) → c ≡ with_entry b (entry.TooLarge k.side v k.paths n) → Stops s c (closing.TooLarge n)
 large_early {D} s b c k v n g w h =
-    subst (λ (x : WrittenBoard D). Stops s x (stop.TooLarge n)) (sym h) (
+    subst (λ (x : WrittenBoard D). Stops s x (closing.TooLarge n)) (sym h) (
       record {
         open_game = ap (λ (st : State). st.is_over) (state_push s b e) ∙ g.open_game;
         work = subst SomeHasWork (sym (state_push s b e)) (work_outgrown k.side (state_of s b) w);
@@ -99,8 +100,8 @@ PublishedTurns {D} s b published.Over c = ⊥
 PublishedTurns {D} s b published.Foreign c = ⊥
 PublishedTurns {D} s b (published.Stale r) c = ⊥
 PublishedTurns {D} s b published.Held c = Turns s b None c × IsSameGame b c
-PublishedTurns {D} s b published.Spent c = Turns s b (Some stop.Spent) c × IsSameGame b c
-PublishedTurns {D} s b (published.TooLarge n) c = Turns s b (Some (stop.TooLarge n)) c × IsSameGame b c
+PublishedTurns {D} s b published.Spent c = Turns s b (Some closing.Spent) c × IsSameGame b c
+PublishedTurns {D} s b (published.TooLarge n) c = Turns s b (Some (closing.TooLarge n)) c × IsSameGame b c
 PublishedTurns {D} s b (published.Added m) c = Turns s b None c × IsSameGame b c
 
 pub published_turns : {D : Type 0} → (s : Sort) (b c : WrittenBoard D) (k : WrittenCounter) (v : ℕ) (p : Published) → IsGoing s b → AttacksVersion s b k v → IsAttackBy s b k.side (other k.side) v → Publishes s b k v p c → PublishedTurns s b p c
@@ -148,7 +149,7 @@ won_on {D} s b w side v h = record {
     on Exists = refl
     on Forall = refl
 
-pub finished_turns : {D : Type 0} → (s : Sort) (b c : WrittenBoard D) (w : WonGame) (side : Side) (v : ℕ) (f : Finished) → IsGoing s b → WinsVersion s b w side v → Finishes s b w side v f c → Turns s b (Some (stop.Won side)) c × IsSameGame b c
+pub finished_turns : {D : Type 0} → (s : Sort) (b c : WrittenBoard D) (w : WonGame) (side : Side) (v : ℕ) (f : Finished) → IsGoing s b → WinsVersion s b w side v → Finishes s b w side v f c → Turns s b (Some (closing.Won side)) c × IsSameGame b c
 finished_turns {D} s b c w side v finished.Set g a h = (
   subst (λ (x : WrittenBoard D). IsWonOn s x side) (sym h.2) (won_on s b w side v a),
   record {
@@ -201,3 +202,15 @@ noted_turns {D} s b c n answer.Kept g o w h = by h.2
     by (inr k) = noted_new s b c n g o k.1
 noted_turns {D} s b c n answer.Foreign g o w h = absurd (h.1 (on_version s b n o))
 noted_turns {D} s b c n answer.Over g o w h = absurd (not_both s b g.open_game h.0)
+
+-- ---- no work
+
+-- a game that goes on has shown notes alone
+pub blocked_turns : {D : Type 0} → (s : Sort) (b : WrittenBoard D) (wish : Side) → IsGoing s b → IsJob s b wish job.Blocked → IsBlocked s (problem_of b.problem) (entries_of b.history) → Turns s b (Some closing.Blocked) b
+blocked_turns {D} s b wish g j k = (g.open_game, no_work wish j.1 j.2, k, λ x u z m. g.shown x (newest_number (of_side x (state_of s b))) z m)
+  where
+    no_work : (w : Side) → ¬ HasWork w (state_of s b) → ¬ HasWork (other w) (state_of s b) → ¬ SomeHasWork (state_of s b)
+    no_work Exists m n (inl h) = m h
+    no_work Exists m n (inr h) = n h
+    no_work Forall m n (inl h) = n h
+    no_work Forall m n (inr h) = m h

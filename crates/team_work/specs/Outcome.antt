@@ -14,6 +14,7 @@ use Rattle.proof_rules.specs.Won.{WonGame, IsWon}
 use Rattle.game_history.specs.History.{Wideness, Entry, too_large, won, found, SideState, of_side, version, newest_number, replay}
 use Rattle.game_history.specs.Legal.{Legal}
 use Rattle.game_history.specs.Work.{IsUnbeaten, SomeHasWork, HasNote, IsNoted}
+use Rattle.round_bounds.specs.Bounds.{MaySpend}
 use Rattle.game_board.specs.declared.Why.{Why}
 use Rattle.game_board.specs.declared.Why.TheVariants as why
 use Rattle.game_board.specs.Entries.{wideness_of, entries_of}
@@ -84,3 +85,14 @@ abbrev pub IsRight : {D : Type 0} → Type 0 → Verdict D → Type 0
 IsRight {D} Truth (verdict.Sat w) = Truth
 IsRight {D} Truth (verdict.Unsat w) = ¬ Truth
 IsRight {D} Truth (verdict.Unknown y) = ⊤
+
+-- the rounds are named as the cause only where they were fewer than is known to be enough
+abbrev pub HasFewFor : {D : Type 0} → Sort → Problem → ℕ → Why D → Type 0
+HasFewFor {D} s P B (why.Coefficient n) = ⊤
+HasFewFor {D} s P B (why.Rounds n) = MaySpend s P B
+HasFewFor {D} s P B (why.Nodes n) = ⊤
+
+abbrev pub HasFewRounds : {D : Type 0} → Sort → Problem → ℕ → Verdict D → Type 0
+HasFewRounds {D} s P B (verdict.Sat w) = ⊤
+HasFewRounds {D} s P B (verdict.Unsat w) = ⊤
+HasFewRounds {D} s P B (verdict.Unknown y) = HasFewFor s P B y

@@ -14,17 +14,17 @@ use Rattle.cube_elim.specs.Among.{IsTakenFrom}
 use Rattle.cube_elim.specs.Determined.{WideAt}
 use Rattle.clause_search.specs.Branches.{branches, SomeIs, EachStops}
 use Rattle.term_select.specs.Guided.{guided, first_wide}
-use Rattle.game_history.specs.History.{Wideness, cube, choice, Entry, noted, won, of_side, version}
+use Rattle.game_history.specs.History.{Wideness, cube, choice, Entry, noted, won, of_side, version, newest_number}
 use Rattle.game_history.specs.Legal.{OfVersion}
-use Rattle.game_history.specs.Work.{IsBlocked, SomeHasWork}
+use Rattle.game_history.specs.Work.{IsUnbeaten, HasNote, IsBlocked, SomeHasWork}
 use Rattle.game_board.specs.Entries.{wideness_of, entries_of}
 use Rattle.game_board.specs.Board.{WrittenBoard, problem_on, state_of}
 use Rattle.game_board.specs.Replies.{IsUndecided, AttacksVersion, WinsVersion}
 use Rattle.team_work.specs.declared.look.Looked.{Looked}
 use Rattle.team_work.specs.declared.look.Looked.TheVariants as looked
-use Rattle.team_work.specs.declared.stop.Stop.{Stop}
-use Rattle.team_work.specs.declared.stop.Stop.TheVariants as stop
-use Rattle.team_work.specs.Shown.{ShownFor}
+use Rattle.team_work.specs.declared.closing.Closing.{Closing}
+use Rattle.team_work.specs.declared.closing.Closing.TheVariants as closing
+use Rattle.team_work.specs.Shown.{ShownFor, Shown}
 use Rattle.team_work.specs.Outcome.{StopsEarly, HasTooLarge}
 
 -- the other problem is the dual, whose dual is the problem
@@ -75,6 +75,11 @@ IsLooked {D} s b side v (looked.Wide y) = OfVersion (of_side side (state_of s b)
 
 -- ---- a stop
 
+-- each note on the newest version of the side is shown, where that is not beaten
+abbrev pub IsNewestShown : {D : Type 0} → Sort → WrittenBoard D → Side → Type 0
+IsNewestShown {D} s b x =
+    IsUnbeaten x (state_of s b) → (z : Wideness) → HasNote s (problem_of b.problem) (entries_of b.history) x z → Shown s (problem_of b.problem) (entries_of b.history) x (newest_number (of_side x (state_of s b))) z
+
 -- the side has won, by a version that the last entry names
 pub record IsWonOn {D : Type 0} (s : Sort) (b : WrittenBoard D) (side : Side) : Type 0 where
   pub game : WonGame
@@ -85,11 +90,12 @@ pub record IsWonOn {D : Type 0} (s : Sort) (b : WrittenBoard D) (side : Side) : 
   pub last : entries_of b.history ≡ before ++ won side number ∷ []
   pub there : version (of_side side (state_of s b)) number ≡ Some (skeleton_of game.tree)
 
-abbrev pub Stops : {D : Type 0} → Sort → WrittenBoard D → Stop → Type 0
-Stops {D} s b (stop.Won side) = IsWonOn s b side
-Stops {D} s b stop.Blocked = IsGoing s b × (¬ SomeHasWork (state_of s b)) × IsBlocked s (problem_of b.problem) (entries_of b.history)
-Stops {D} s b stop.Spent = StopsEarly s (problem_of b.problem) (entries_of b.history) × ((state_of s b).is_spent ≡ true)
-Stops {D} s b (stop.TooLarge n) = StopsEarly s (problem_of b.problem) (entries_of b.history) × ((state_of s b).is_spent ≡ false) × HasTooLarge (entries_of b.history) n
+abbrev pub Stops : {D : Type 0} → Sort → WrittenBoard D → Closing → Type 0
+Stops {D} s b (closing.Won side) = IsWonOn s b side
+Stops {D} s b closing.Blocked =
+    IsUndecided s b × (¬ SomeHasWork (state_of s b)) × IsBlocked s (problem_of b.problem) (entries_of b.history) × ((x : Side) → IsNewestShown s b x)
+Stops {D} s b closing.Spent = StopsEarly s (problem_of b.problem) (entries_of b.history) × ((state_of s b).is_spent ≡ true)
+Stops {D} s b (closing.TooLarge n) = StopsEarly s (problem_of b.problem) (entries_of b.history) × ((state_of s b).is_spent ≡ false) × HasTooLarge (entries_of b.history) n
 
 -- ---- a turn
 
@@ -100,6 +106,6 @@ pub record IsSameGame {D : Type 0} (b b' : WrittenBoard D) : Type 0 where
   pub rounds : b'.rounds ≡ b.rounds
 
 -- the game stops, or one entry was added and it goes on
-abbrev pub Turns : {D : Type 0} → Sort → WrittenBoard D → Option Stop → WrittenBoard D → Type 0
+abbrev pub Turns : {D : Type 0} → Sort → WrittenBoard D → Option Closing → WrittenBoard D → Type 0
 Turns {D} s b None b' = IsGoing s b' × (length b'.history ≡ suc (length b.history))
 Turns {D} s b (Some x) b' = Stops s b' x

@@ -11,10 +11,10 @@ ghost use Rattle.game_board.specs.Entries.{entry_of, entries_of};
 ghost use Rattle.team_work.specs.Noting.{ReadsNote, FindsNote, verdict_of};
 ghost use Rattle.team_work.specs.Outcome.{IsOutcome, SaysWhy};
 ghost use Rattle.team_work.specs.Turn.{HasDual, IsWonOn, Stops};
-ghost use Rattle.team_work.specs.declared.stop.Stop.TheVariants as stop;
+ghost use Rattle.team_work.specs.declared.closing.Closing.TheVariants as closing;
 
+use crate::closing::Closing;
 use crate::outcome::{Outcome, Verdict};
-use crate::stop::Stop;
 use dom_core::{Domain, Side};
 use game_board::{Board, Closed, Entry, Why, WideNote};
 use lin_term::Memory;
@@ -23,7 +23,7 @@ use std::alloc::Global;
 use strat_trim::trim;
 
 /// The verdict that a side has won.
-fn verdict_for<D: Domain>(side: Side, won: Won<D>) -> Verdict<D>
+pub(crate) fn verdict_for<D: Domain>(side: Side, won: Won<D>) -> Verdict<D>
     ensures { result ≡ verdict_of side won }
 {
     match side {
@@ -100,7 +100,7 @@ fn read_note<D: Domain>(
 
 /// The note on a version of a side, copied; none exactly where no entry is one. It refuses only for memory.
 #[tactic(auto, using(crate::proofs::Noted::note_found))]
-fn find_note<D: Domain>(
+pub(crate) fn find_note<D: Domain>(
     alloc: Global,
     entries: &[Entry<D>],
     side: Side,
@@ -132,7 +132,7 @@ fn unbeaten<D: Domain>(board: &Board<D>) -> (Side, u32)
 }
 
 /// Whether a reach is at least this version.
-fn is_reached(reach: Option<u32>, version: u32) -> bool
+pub(crate) fn is_reached(reach: Option<u32>, version: u32) -> bool
     ensures { IsTrue result ↔ ¬ IsAbove version reach }
 {
     match reach {
@@ -143,7 +143,7 @@ fn is_reached(reach: Option<u32>, version: u32) -> bool
 
 /// The outcome of a game in which neither side has work; refuses only for memory.
 fn blocked<D: Domain>(alloc: Global, board: Board<D>, rounds: u32) -> Result<Outcome<D>, Memory>
-    requires stops { Stops D.SORT board stop.Blocked }
+    requires stops { Stops D.SORT board closing.Blocked }
     requires rounds { rounds ≡ board.rounds }
     ensures { IfOk result (λ o. IsOutcome D.SORT (problem_of board.problem) rounds o) }
 {
@@ -159,7 +159,7 @@ fn blocked<D: Domain>(alloc: Global, board: Board<D>, rounds: u32) -> Result<Out
 pub fn ended<D: Domain>(
     alloc: Global,
     board: Board<D>,
-    stop: Stop,
+    stop: Closing,
     rounds: u32,
 ) -> Result<Outcome<D>, Memory>
     requires duals { HasDual D.SORT board }
@@ -168,9 +168,9 @@ pub fn ended<D: Domain>(
     ensures { IfOk result (λ o. IsOutcome D.SORT (problem_of board.problem) rounds o) }
 {
     match stop {
-        Stop::Won(side) => decided(alloc, board, side, rounds),
-        Stop::Blocked => blocked(alloc, board, rounds),
-        Stop::Spent => Ok(undecided(board, Why::Rounds(rounds), rounds)),
-        Stop::TooLarge(nodes) => Ok(undecided(board, Why::Nodes(nodes), rounds)),
+        Closing::Won(side) => decided(alloc, board, side, rounds),
+        Closing::Blocked => blocked(alloc, board, rounds),
+        Closing::Spent => Ok(undecided(board, Why::Rounds(rounds), rounds)),
+        Closing::TooLarge(nodes) => Ok(undecided(board, Why::Nodes(nodes), rounds)),
     }
 }

@@ -1,11 +1,12 @@
-//! Games played to a verdict: alone, each side in turn.
+//! Games played to a verdict, alone: each side in turn.
 #![tactic(auto)]
 
 mod alone;
+mod closing;
 mod ending;
+mod kept;
 mod look;
 mod outcome;
-mod stop;
 mod turn;
 
 // What a game ends with.

@@ -12,8 +12,9 @@ ghost use Rattle.game_board.specs.Replies.{AttacksVersion, WinsVersion, IsAttack
 ghost use Rattle.team_work.specs.Shown.{ShownFor};
 ghost use Rattle.team_work.specs.Turn.{HasDual, IsGoing, IsSameGame, Turns};
 
+use crate::closing::Closing;
+use crate::kept::Kept;
 use crate::look::{Looked, look};
-use crate::stop::Stop;
 use clause_search::Attacker;
 use dom_core::{Domain, Side};
 use game_board::{Board, Job, Published, WideNote, Wideness};
@@ -24,14 +25,14 @@ use term_select::Counter;
 
 /// The side has won by its version.
 #[tactic(auto, using(crate::proofs::Turning::finished_turns))]
-fn finish<D: Domain>(board: &mut Board<D>, won: Won<D>, side: Side, version: u32) -> Option<Stop>
+fn finish<D: Domain>(board: &mut Board<D>, won: Won<D>, side: Side, version: u32) -> Option<Closing>
     requires going { IsGoing D.SORT board.old }
     requires wins { WinsVersion D.SORT board.old won side version }
     ensures turns { Turns D.SORT board.old result board.new }
     ensures same { IsSameGame board.old board.new }
 {
     let _set = board.finish(won, side, version);
-    Some(Stop::Won(side))
+    Some(Closing::Won(side))
 }
 
 /// A counter of the side that has work, to the version that it attacks.
@@ -41,7 +42,7 @@ fn publish<D: Domain>(
     board: &mut Board<D>,
     counter: Counter<D>,
     version: u32,
-) -> Result<Option<Stop>, Memory>
+) -> Result<Option<Closing>, Memory>
     requires going { IsGoing D.SORT board.old }
     requires attacks { AttacksVersion D.SORT board.old counter version }
     requires work { IsAttackBy D.SORT board.old counter.side (other counter.side) version }
@@ -51,8 +52,8 @@ fn publish<D: Domain>(
     match board.publish(alloc, counter, version)? {
         Published::Added(_) => Ok(None),
         Published::Held => Ok(None),
-        Published::Spent => Ok(Some(Stop::Spent)),
-        Published::TooLarge { nodes } => Ok(Some(Stop::TooLarge(nodes))),
+        Published::Spent => Ok(Some(Closing::Spent)),
+        Published::TooLarge { nodes } => Ok(Some(Closing::TooLarge(nodes))),
         Published::Over => unreachable!(),
         Published::Foreign => unreachable!(),
         Published::Stale { reach: _ } => unreachable!(),
@@ -67,7 +68,7 @@ fn note<D: Domain>(
     why: Wideness<D>,
     side: Side,
     version: u32,
-) -> Result<Option<Stop>, Memory>
+) -> Result<Option<Closing>, Memory>
     requires going { IsGoing D.SORT board.old }
     requires shown { OfVersion (of_side side (state_of D.SORT board.old)) version (ShownFor D.SORT (problem_of board.old.problem) side (wideness_of why)) }
     requires work { IsAttackBy D.SORT board.old (other side) side version }
@@ -86,14 +87,15 @@ fn attack<D: Domain, A: Attacker<D>>(
     board: &mut Board<D>,
     side: Side,
     version: u32,
-) -> Result<Option<Stop>, Memory>
+    kept: &mut Kept,
+) -> Result<Option<Closing>, Memory>
     requires duals { HasDual D.SORT board.old }
     requires going { IsGoing D.SORT board.old }
     requires work { IsAttackBy D.SORT board.old (other side) side version }
     ensures turns { IfOk result (λ o. Turns D.SORT board.old o board.new) }
     ensures same { IfOk result (λ o. IsSameGame board.old board.new) }
 {
-    match look(alloc, attacker, board, side, version)? {
+    match look(alloc, attacker, board, side, version, kept.of_side(side))? {
         Looked::Won(won) => Ok(finish(board, won, side, version)),
         Looked::Beaten(counter) => publish(alloc, board, counter, version),
         Looked::Wide(why) => note(alloc, board, why, side, version),
@@ -108,15 +110,16 @@ pub fn turn<D: Domain, A: Attacker<D>>(
     attacker: &A,
     board: &mut Board<D>,
     wish: Side,
-) -> Result<Option<Stop>, Memory>
+    kept: &mut Kept,
+) -> Result<Option<Closing>, Memory>
     requires duals { HasDual D.SORT board.old }
     requires going { IsGoing D.SORT board.old }
     ensures turns { IfOk result (λ o. Turns D.SORT board.old o board.new) }
     ensures same { IfOk result (λ o. IsSameGame board.old board.new) }
 {
     match board.next(wish) {
-        Job::Attack { side, version } => attack(alloc, attacker, board, side, version),
-        Job::Blocked => Ok(Some(Stop::Blocked)),
+        Job::Attack { side, version } => attack(alloc, attacker, board, side, version, kept),
+        Job::Blocked => Ok(Some(Closing::Blocked)),
         Job::Over => unreachable!(),
     }
 }

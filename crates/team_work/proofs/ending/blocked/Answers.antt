@@ -19,6 +19,6 @@ pub undecided-requires-clause-says : goal.undecided-requires-clause-says
 undecided-requires-clause-says g c =
     let r = c.unbeaten-side.result in
     let e = c.unbeaten-side.ensures in
-    blocked_says g.D.Domain.SORT c.args.board r.0 r.1 c.in-Some.note c.args.rounds c.requires.stops.0 c.requires.stops.1 e.unbeaten e.newest e.exists_first
+    blocked_says g.D.Domain.SORT c.args.board r.0 r.1 c.in-Some.note c.args.rounds c.requires.stops.0 c.requires.stops.1 c.requires.stops.3 e.unbeaten e.newest e.exists_first
     (subst (λ (o : Option (WideNote g.row.D.Denot)). FindsNote (entries_of c.args.board.history) r.0 r.1 o) c.in-Some.is
     (subst (λ (xs : List (Entry g.row.D.Denot)). FindsNote (entries_of xs) r.0 r.1 c.in_ok-found.found) c.history.ensures.value c.in_ok-found.ensures))

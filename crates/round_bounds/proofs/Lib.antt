@@ -1,0 +1,5 @@
+pub mod Unspent
+pub mod OnePlayer
+pub mod LastVariable
+pub mod LastPicked
+pub mod Spending

@@ -1,0 +1,3 @@
+(set-logic LIA)
+(assert (exists ((x Int)) (= (* 2 x) 1)))
+(check-sat)

@@ -1,0 +1,3 @@
+(set-logic LRA)
+(assert (exists ((x Real)) (= (* 2 x) 1)))
+(check-sat)

@@ -1,0 +1,3 @@
+(set-logic LRA)
+(assert (exists ((x Real)) (forall ((y Real)) (< x y))))
+(check-sat)

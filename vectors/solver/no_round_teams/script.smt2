@@ -1,0 +1,3 @@
+(set-logic LRA)
+(assert (forall ((x Real)) (exists ((y Real)) (< x y))))
+(check-sat)
